@@ -41,7 +41,7 @@ module _ {A : Type 0} where
 
   -- a store at i lengthens what is built by one entry
   pub build-step : (i : ℕ) (f : ℕ → A) (old : List A) → i < length old
-    → set (build i f ++ drop i old) i (f i) ≡ build (suc i) f ++ drop (suc i) old
+      → set (build i f ++ drop i old) i (f i) ≡ build (suc i) f ++ drop (suc i) old
   build-step i f old h =
       ap (λ (t : List A). set (build i f ++ t) i (f i)) (drop-cons old i (f i) h)
       ∙ set-at (build i f) (getD old i (f i)) (drop (suc i) old) (f i) i (length-build i f)
@@ -72,19 +72,20 @@ room n k d h = subst (λ (m : ℕ). m ≤ d * n) (suc-mul k n) (mul-le-mul-right
 module _ {A : Type 0} where
   -- entry i of joined row k
   pub getD-join : (n d : ℕ) (g : ℕ → List A) (e : A) → ((k : ℕ) → k < d → length (g k) ≡ n)
-    → (k i : ℕ) → k < d → i < n → getD (join d g) (k * n + i) e ≡ getD (g k) i e
+      → (k i : ℕ) → k < d → i < n → getD (join d g) (k * n + i) e ≡ getD (g k) i e
   getD-join n zero g e h k i l m = absurd (not-suc-le-zero l)
   getD-join n (suc d) g e h k i l m =
       ⊎-elim
       (λ q. subst (λ (r : ℕ). getD (join d g ++ g d) (r * n + i) e ≡ getD (g r) i e) (sym q)
-            (ap (λ (s : ℕ). getD (join d g ++ g d) (s + i) e) (sym len) ∙ getD-append-add (join d g) (g d) i e))
+      (ap (λ (s : ℕ). getD (join d g ++ g d) (s + i) e) (sym len) ∙ getD-append-add (join d g) (g d) i e))
       (λ s. List·getD-append (join d g) (g d) e (k * n + i)
-            (subst (λ (r : ℕ). k * n + i < r) (sym len) (let z : k * n + n ≤ d * n = room n k d s in omega arith))
-            ∙ getD-join n d g e below k i s m)
+      (subst (λ (r : ℕ). k * n + i < r) (sym len) (let z : k * n + n ≤ d * n = room n k d s in omega arith))
+      ∙ getD-join n d g e below k i s m)
       (eq-or-lt-of-le (le-of-suc-le-suc l))
     where
       below : (j : ℕ) → j < d → length (g j) ≡ n
       below j z = h j (le-step z)
+
       len : length (join d g) ≡ d * n
       len = length-join n d g below
 
@@ -101,15 +102,15 @@ module _ {A : Type 0} where
 
   -- device k's part of a row that is joined up to k: the next row joins on
   pub join-step : (n k d : ℕ) (g : ℕ → List A) (old : List A)
-    → ((j : ℕ) → j ≤ k → length (g j) ≡ n) → k < d → length old ≡ d * n
-    → put (join k g ++ drop (k * n) old) (k * n) (k * n + n) (g k) ≡ join (suc k) g ++ drop (suc k * n) old
+      → ((j : ℕ) → j ≤ k → length (g j) ≡ n) → k < d → length old ≡ d * n
+      → put (join k g ++ drop (k * n) old) (k * n) (k * n + n) (g k) ≡ join (suc k) g ++ drop (suc k * n) old
   join-step n k d g old h l e =
       ap₂ (λ (xs ys : List A). xs ++ (g k ++ ys))
       (take-at (join k g) (drop (k * n) old) (k * n) len)
       (ap (λ (m : ℕ). drop m (drop (k * n) (join k g ++ drop (k * n) old))) (add-sub-cancel-left (k * n) n)
-       ∙ ap (drop n) (drop-at (join k g) (drop (k * n) old) (k * n) len)
-       ∙ drop-drop n (k * n) old
-       ∙ ap (λ (m : ℕ). drop m old) (sym (suc-mul k n)))
+      ∙ ap (drop n) (drop-at (join k g) (drop (k * n) old) (k * n) len)
+      ∙ drop-drop n (k * n) old
+      ∙ ap (λ (m : ℕ). drop m old) (sym (suc-mul k n)))
       ∙ sym (append-assoc (join k g) (g k) (drop (suc k * n) old))
     where
       len : length (join k g) ≡ k * n
@@ -117,7 +118,7 @@ module _ {A : Type 0} where
 
   -- what is not yet joined is still as it was: device k's part
   pub join-rest : (n k d : ℕ) (g : ℕ → List A) (old : List A)
-    → ((j : ℕ) → j < k → length (g j) ≡ n) → cut (join k g ++ drop (k * n) old) (k * n) (k * n + n) ≡ cut old (k * n) (k * n + n)
+      → ((j : ℕ) → j < k → length (g j) ≡ n) → cut (join k g ++ drop (k * n) old) (k * n) (k * n + n) ≡ cut old (k * n) (k * n + n)
   join-rest n k d g old h = ap (take (k * n + n - k * n)) (drop-at (join k g) (drop (k * n) old) (k * n) (length-join n k g h))
 
   pub join-done : (n d : ℕ) (g : ℕ → List A) (old : List A) → length old ≡ d * n → join d g ++ drop (d * n) old ≡ join d g
@@ -178,27 +179,30 @@ first-is (suc n) p = step (first n p) (first-is n p) (p n) refl
   where
     shown : (r q : ℕ) → q ≡ pick (eqb r n) (pick (p n) n (suc n)) r → FirstOf (suc n) p q → FirstOf (suc n) p (pick (eqb r n) (pick (p n) n (suc n)) r)
     shown r q e f = subst (FirstOf (suc n) p) e f
+
     step : (r : ℕ) → FirstOf n p r → (b : Bool) → p n ≡ b → FirstOf (suc n) p (pick (eqb r n) (pick (p n) n (suc n)) r)
     step r x b e =
         ⊎-elim
         (λ q. at-end r x b e q)
         (λ l. shown r r (sym (ap (λ (t : Bool). pick t (pick (p n) n (suc n)) r) (ne-eqb r n (λ q. omega arith))))
-              (record { within = le-step (x .within); before = x .before; found = λ h. x .found l }))
+        (record { within = le-step (x .within); before = x .before; found = λ h. x .found l }))
         (eq-or-lt-of-le (x .within))
       where
         chosen : (r : ℕ) (b : Bool) → p n ≡ b → r ≡ n → pick b n (suc n) ≡ pick (eqb r n) (pick (p n) n (suc n)) r
         chosen r b e q =
             ap (λ (t : Bool). pick t n (suc n)) (sym e) ∙ sym (ap (λ (t : Bool). pick t (pick (p n) n (suc n)) r) (eq-eqb r n q))
+
         at-end : (r : ℕ) → FirstOf n p r → (b : Bool) → p n ≡ b → r ≡ n → FirstOf (suc n) p (pick (eqb r n) (pick (p n) n (suc n)) r)
         at-end r x true e q =
             shown r n (chosen r true e q)
             (record { within = omega arith; before = λ k h. x .before k (omega arith); found = λ h. e })
         at-end r x false e q =
             shown r (suc n) (chosen r false e q)
-            (record
-              { within = le-refl (suc n);
-                before = λ k h. ⊎-elim (λ z. subst (λ (m : ℕ). p m ≡ false) (sym z) e) (λ z. x .before k (omega arith)) (eq-or-lt-of-le (le-of-suc-le-suc h));
-                found = λ h. absurd (lt-irrefl (suc n) h) })
+            (record {
+              within = le-refl (suc n);
+              before = λ k h. ⊎-elim (λ z. subst (λ (m : ℕ). p m ≡ false) (sym z) e) (λ z. x .before k (omega arith)) (eq-or-lt-of-le (le-of-suc-le-suc h));
+              found = λ h. absurd (lt-irrefl (suc n) h);
+            })
 
 -- whatever is a first offender is the computed one
 pub first-of : (n : ℕ) (p : ℕ → Bool) (r : ℕ) → FirstOf n p r → r ≡ first n p

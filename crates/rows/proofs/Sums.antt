@@ -77,11 +77,11 @@ hits-once zero x h = absurd (not-suc-le-zero h)
 hits-once (suc m) x h =
     ⊎-elim
     (λ e. let a : sumTo m (hit x) ≡ 0 = hits-below m x (omega arith) in
-          let b : hit x m ≡ 1 = subst (λ (y : ℕ). hit x y ≡ 1) e (hit-same x) in
-          omega arith)
+    let b : hit x m ≡ 1 = subst (λ (y : ℕ). hit x y ≡ 1) e (hit-same x) in
+    omega arith)
     (λ l. let a : sumTo m (hit x) ≡ 1 = hits-once m x l in
-          let b : hit x m ≡ 0 = hit-other x m (λ e. omega arith) in
-          omega arith)
+    let b : hit x m ≡ 0 = hit-other x m (λ e. omega arith) in
+    omega arith)
     (eq-or-lt-of-le (le-of-suc-le-suc h))
 
 -- the counts of all values add to the number of entries

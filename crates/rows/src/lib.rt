@@ -9,10 +9,8 @@ ghost use Rattle.rows.specs.Rows.{FirstOf};
 // The first index at which two lists of lengths differ, or their common length.
 pub fn first_difference(have: &[usize], want: &[usize]) -> usize
     requires { ⌜ length (now have) ≡ length (now want) ⌝ }
-    ensures {
-        λ r. ⌜ FirstOf (length (now (have .entry)))
-                 (λ k. not (eqb (getD (now (have .entry)) k 0) (getD (now (want .entry)) k 0))) r ⌝
-    }
+    ensures { λ r. ⌜ FirstOf (length (now (have .entry)))
+        (λ k. not (eqb (getD (now (have .entry)) k 0) (getD (now (want .entry)) k 0))) r ⌝ }
 {
     let mut i = 0;
     while i < have.len() {

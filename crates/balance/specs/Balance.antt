@@ -1,0 +1,75 @@
+-- From a device's methane litres to tonnes (document 01, "From used value to tonnes").
+-- Assumes nothing.
+use Prim.Native.Nat.{ℕ, _+_, _-_, _*_, _/_, _≤_}
+use mathlib.Core.Path.{_≡_, refl}
+use lib.IntN.{ℤ, pos, negsuc, subℕ}
+use lib.Signed.{shrZ}
+use Rattle.protocol.specs.Numbers.{protocol, methaneMg, carbonMg}
+use Rattle.protocol.specs.Kinds.{thousandthsOf}
+
+-- a / b rounded up
+abbrev pub ceilDiv : ℕ → ℕ → ℕ
+ceilDiv a b = (a + (b - 1)) / b
+
+-- "destroyed = Q × kind's number / 1,000 rounded down"
+unfoldable pub destroyedOf : ℕ → ℕ → ℕ
+destroyedOf kind q = q * thousandthsOf kind / 1000
+
+-- "uncombusted = Q × (1,000 - kind's number) / 1,000 rounded up"
+unfoldable pub uncombustedOf : ℕ → ℕ → ℕ
+uncombustedOf kind q = ceilDiv (q * (1000 - thousandthsOf kind)) 1000
+
+-- "Baseline mg = 14,007 Q (equation 3)"
+unfoldable pub baselineMg : ℕ → ℕ
+baselineMg q = methaneMg * q
+
+-- "CO2 mg = 7,337 × destroyed / 4 rounded up"
+unfoldable pub carbonDioxideMg : ℕ → ℕ
+carbonDioxideMg destroyed = ceilDiv (carbonMg * destroyed) (protocol .«carbon_under»)
+
+-- "uncombusted mg = 14,007 × uncombusted"
+unfoldable pub uncombustedMg : ℕ → ℕ
+uncombustedMg uncombusted = methaneMg * uncombusted
+
+-- what adds less what subtracts, signed (equation 1)
+unfoldable pub reductionOf : ℕ → ℕ → ℤ
+reductionOf credit debit = subℕ credit debit
+
+-- mg in a tonne
+abbrev pub tonne : ℕ
+tonne = 1000000000
+
+-- "Tonnes = reduction / 1,000,000,000 rounded towards minus infinity"
+unfoldable pub tonnesOf : ℤ → ℤ
+tonnesOf reduction = shrZ reduction tonne
+
+-- "credits = tonnes, or 0 if negative"
+unfoldable pub creditsOf : ℤ → ℕ
+creditsOf (pos n) = n
+creditsOf (negsuc n) = 0
+
+-- the most methane litres that a device can have in a year, 35,136 intervals of 11,168,127
+abbrev pub deviceMost : ℕ
+deviceMost = 392403310272
+
+-- "Q 50,000, kind 2: 49,750 and 250; CO2 91,253,938 mg"
+destroyed-example : destroyedOf 2 50000 ≡ 49750
+unfolding destroyedOf
+destroyed-example = refl
+
+uncombusted-example : uncombustedOf 2 50000 ≡ 250
+unfolding uncombustedOf
+uncombusted-example = refl
+
+carbon-example : carbonDioxideMg 49750 ≡ 91253938
+unfolding carbonDioxideMg
+carbon-example = refl
+
+-- "reduction -94,405,688 mg: tonnes -1, credits 0"
+tonnes-example : tonnesOf (negsuc 94405687) ≡ negsuc 0
+unfolding tonnesOf
+tonnes-example = refl
+
+credits-example : creditsOf (negsuc 0) ≡ 0
+unfolding creditsOf
+credits-example = refl

@@ -1,0 +1,35 @@
+// Corrected volume and methane litres, each rounded down. Callers cite `methaneLitres` and `litresMost` only.
+ghost use Prim.Native.Nat.{_≤_};
+ghost use mathlib.Core.Path.{_≡_};
+ghost use Rattle.protocol.specs.Ranges.{contentMost};
+ghost use Rattle.volume.specs.Volume.{litresOf, methaneOf, methaneLitres, Inside, litresMost};
+
+use protocol::Protocol;
+
+// Litres at standard conditions. Ruled out: the result rounded up; reference pressure and temperature exchanged.
+pub fn litres(flow: u16, temp: i16, press: u32) -> u64
+    requires { ⌜ Inside flow temp press ⌝ }
+    ensures { λ r. ⌜ (r ≡ litresOf flow temp press) × (r ≤ litresMost) ⌝ }
+{
+    let kelvin = protocol::kelvin(temp);
+    let over = (flow as u64) * 100 * Protocol::KELVIN * (press as u64);
+    over / (kelvin * Protocol::PASCAL)
+}
+
+// Litres of methane in so many litres of gas. Ruled out: rounded up or to the nearest; the content taken for thousandths.
+pub fn methane(litres: u64, content: u16) -> u64
+    requires { ⌜ (litres ≤ litresMost) × (content ≤ contentMost) ⌝ }
+    ensures { λ r. ⌜ (r ≡ methaneOf litres content) × (r ≤ litres) ⌝ }
+{
+    litres * (content as u64) / 10000
+}
+
+// The methane litres of an interval, from the values used for it. Ruled out: one rounding at the end in place of two;
+// a result without the content.
+pub fn methane_litres(flow: u16, content: u16, temp: i16, press: u32) -> u64
+    requires { ⌜ Inside flow temp press × (content ≤ contentMost) ⌝ }
+    ensures { λ r. ⌜ (r ≡ methaneLitres flow content temp press) × (r ≤ litresMost) ⌝ }
+{
+    let gas = litres(flow, temp, press);
+    methane(gas, content)
+}
