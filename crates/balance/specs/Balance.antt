@@ -4,6 +4,7 @@ use Prim.Native.Nat.{ℕ, _+_, _-_, _*_, _/_, _≤_}
 use mathlib.Core.Path.{_≡_, refl}
 use lib.IntN.{ℤ, pos, negsuc, subℕ}
 use lib.Signed.{shrZ}
+use Rattle.rows.specs.Rows.{sumTo}
 use Rattle.protocol.specs.Numbers.{protocol, methaneMg, carbonMg}
 use Rattle.protocol.specs.Kinds.{thousandthsOf}
 
@@ -31,9 +32,28 @@ carbonDioxideMg destroyed = ceilDiv (carbonMg * destroyed) (protocol .«carbon_u
 unfoldable pub uncombustedMg : ℕ → ℕ
 uncombustedMg uncombusted = methaneMg * uncombusted
 
--- what adds less what subtracts, signed (equation 1)
+-- "Fuel mg = quantity × factor, summed": fuel lines 0 up to, and without, lines
+unfoldable pub fuelMg : ℕ → (ℕ → ℕ) → (ℕ → ℕ) → ℕ
+fuelMg lines quantity factor = sumTo lines (λ k. quantity k * factor k)
+
+-- the sums over devices of a function of each device's kind and methane litres
+abbrev pub overDevices : (ℕ → ℕ → ℕ) → ℕ → (ℕ → ℕ) → (ℕ → ℕ) → ℕ
+overDevices f devices kind q = sumTo devices (λ d. f (kind d) (q d))
+
+-- CO2 is "rounded up per device" and then summed
+unfoldable pub baselineAll carbonDioxideAll uncombustedAll : ℕ → (ℕ → ℕ) → (ℕ → ℕ) → ℕ
+baselineAll = overDevices (λ kind q. baselineMg q)
+carbonDioxideAll = overDevices (λ kind q. carbonDioxideMg (destroyedOf kind q))
+uncombustedAll = overDevices (λ kind q. uncombustedMg (uncombustedOf kind q))
+
+-- what adds less what subtracts, signed
 unfoldable pub reductionOf : ℕ → ℕ → ℤ
 reductionOf credit debit = subℕ credit debit
+
+-- "Reduction mg = baseline - CO2 - uncombusted - fuel over everything, signed (equation 1)"
+unfoldable pub reductionAll : ℕ → (ℕ → ℕ) → (ℕ → ℕ) → ℕ → ℤ
+reductionAll devices kind q fuel =
+    reductionOf (baselineAll devices kind q) (carbonDioxideAll devices kind q + uncombustedAll devices kind q + fuel)
 
 -- mg in a tonne
 abbrev pub tonne : ℕ

@@ -3,7 +3,6 @@ ghost use Prim.Native.Nat.{_≤_};
 ghost use mathlib.Core.Path.{_≡_};
 ghost use Rattle.protocol.specs.Ranges.{contentMost};
 ghost use Rattle.volume.specs.Volume.{litresOf, methaneOf, methaneLitres, Inside, litresMost};
-
 use protocol::Protocol;
 
 // Litres at standard conditions. Ruled out: the result rounded up; reference pressure and temperature exchanged.
