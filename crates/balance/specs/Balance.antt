@@ -41,9 +41,13 @@ abbrev pub overDevices : (ℕ → ℕ → ℕ) → ℕ → (ℕ → ℕ) → (�
 overDevices f devices kind q = sumTo devices (λ d. f (kind d) (q d))
 
 -- CO2 is "rounded up per device" and then summed
-unfoldable pub baselineAll carbonDioxideAll uncombustedAll : ℕ → (ℕ → ℕ) → (ℕ → ℕ) → ℕ
+unfoldable pub baselineAll : ℕ → (ℕ → ℕ) → (ℕ → ℕ) → ℕ
 baselineAll = overDevices (λ kind q. baselineMg q)
+
+unfoldable pub carbonDioxideAll : ℕ → (ℕ → ℕ) → (ℕ → ℕ) → ℕ
 carbonDioxideAll = overDevices (λ kind q. carbonDioxideMg (destroyedOf kind q))
+
+unfoldable pub uncombustedAll : ℕ → (ℕ → ℕ) → (ℕ → ℕ) → ℕ
 uncombustedAll = overDevices (λ kind q. uncombustedMg (uncombustedOf kind q))
 
 -- what adds less what subtracts, signed

@@ -1,7 +1,7 @@
 // From a device's methane litres to mg and tonnes, every rounding against the operator.
-ghost use Prim.Native.Nat.{_+_, _≤_, _<_};
+ghost use Prim.Native.Nat.{_*_, _≤_};
 ghost use mathlib.Core.Path.{_≡_};
-ghost use Rattle.protocol.specs.Kinds.{thousandthsOf};
+ghost use Rattle.protocol.specs.Numbers.{methaneMg};
 ghost use Rattle.balance.specs.Balance.{
   destroyedOf,
   uncombustedOf,
