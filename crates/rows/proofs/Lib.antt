@@ -1,3 +1,4 @@
 pub mod Laws
 pub mod Sums
 pub mod Scan
+pub mod Fill

@@ -6,7 +6,7 @@ use mathlib.Core.Path.{_≡_, refl}
 use mathlib.Core.Bool.{Bool, true, false, not}
 use mathlib.Core.List.{List, [], _∷_, _++_}
 use lib.Dec.{eqb}
-use lib.ListN.{take, drop}
+use lib.ListN.{length, take, drop}
 
 -- the first of two where a test holds, else the second
 abbrev pub pick {ℓ} : {A : Type ℓ} → Bool → A → A → A
@@ -61,6 +61,13 @@ cut xs a e = take (e - a) (drop a xs)
 -- the row with its part from a up to e replaced by ys
 abbrev pub put {ℓ} : {A : Type ℓ} → List A → ℕ → ℕ → List A → List A
 put xs a e ys = take a xs ++ (ys ++ drop (e - a) (drop a xs))
+
+-- What a writer of the entries from a up to e keeps up: whatever row f was right up to a, and goes on as g there, is right
+-- up to e, and what comes after is as it was.
+pub record Continued {A : Type 0} (a e : ℕ) (g : ℕ → A) (old new : List A) : Type 0 where
+  pub continued : (f : ℕ → A) (base : List A) → length base ≡ length old → ((i : ℕ) → a ≤ i → i < e → f i ≡ g i)
+      → old ≡ build a f ++ drop a base → new ≡ build e f ++ drop e base
+  pub same-length : length new ≡ length old
 
 -- r is the first index below n at which the test holds, or n if there is none
 pub record FirstOf (n : ℕ) (p : ℕ → Bool) (r : ℕ) : Type 0 where

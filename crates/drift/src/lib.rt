@@ -1,0 +1,65 @@
+// Drift correction of one instrument's row, in time that grows with the row and the checks.
+ghost use Prim.Native.Nat.{ℕ, _≤_, _<_};
+ghost use mathlib.Core.Path.{_≡_};
+ghost use lib.ListN.{length, getD};
+ghost use Rattle.rows.specs.Rows.{build, Continued};
+ghost use Rattle.drift.specs.Drift.{within, keptOr, correctedAt, Ordered};
+
+// A check that passes. Ruled out: 500 or -500 passes; only the drift's size below 499 passes.
+pub fn passed(drift: i32) -> bool
+    ensures { λ r. ⌜ r ≡ within drift ⌝ }
+{
+    if drift < -499 {
+        return false;
+    }
+    !(499 < drift)
+}
+
+// The readings from start up to end, with a drift taken out.
+fn stretch(reading: &[u16], start: usize, end: usize, drift: u64, used: &mut [u16])
+    requires { ⌜ (start ≤ end) × (end ≤ length (now reading)) × (length (now used) ≡ length (now reading)) × (drift < 4294967296) ⌝ }
+    ensures { λ r. ⌜ Continued start end (keptOr drift (now (reading .entry))) (now (used .entry)) (now (used .exit)) ⌝ }
+{
+    let mut i = start;
+    while i < end {
+        let v = reading[i];
+        if v == 65535 {
+            used[i] = v;
+            i += 1;
+        } else {
+            used[i] = ((v as u64) * 10000 / (10000 + drift)) as u16;
+            i += 1;
+        }
+    }
+}
+
+// The row of corrected readings, missing ones marked as before. Ruled out: a low-reading meter corrected upward; the last
+// failed check's drift in place of the greatest.
+pub fn correct(reading: &[u16], count: u32, places: &[u32], drifts: &[i32], used: &mut [u16])
+    requires { ⌜ Ordered (record { count = count; places = now places; drifts = now drifts }) (length (now reading))
+        × (length (now used) ≡ length (now reading)) ⌝ }
+    ensures { λ r. ⌜ now (used .exit)
+        ≡ build (length (now (reading .entry)))
+        (correctedAt (record { count = count; places = now (places .entry); drifts = now (drifts .entry) }) (now (reading .entry))) ⌝ }
+{
+    let n = reading.len();
+    let mut start = 0;
+    let mut most = 0;
+    let mut j = 0;
+    while j < count {
+        let drift = drifts[j as usize];
+        if passed(drift) {
+            let end = places[j as usize] as usize;
+            stretch(reading, start, end, most, used);
+            start = end;
+            most = 0;
+        } else {
+            let high = protocol::raise(drift, 0);
+            if most < high {
+                most = high;
+            }
+        }
+        j += 1;
+    }
+    stretch(reading, start, n, most, used);
+}
