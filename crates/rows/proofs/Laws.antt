@@ -33,6 +33,12 @@ module _ {A : Type 0} where
   build-ext (suc n) f g h =
       ap₂ (λ (xs : List A) (x : A). xs ++ (x ∷ [])) (build-ext n f g (λ k l. h k (le-step l))) (h n (lt-suc-self n))
 
+  -- inside a row, what stands for an absent entry does not matter
+  pub getD-inside : (xs : List A) (i : ℕ) (d e : A) → i < length xs → getD xs i d ≡ getD xs i e
+  getD-inside [] i d e h = absurd (not-suc-le-zero h)
+  getD-inside (x ∷ xs) zero d e h = refl
+  getD-inside (x ∷ xs) (suc i) d e h = getD-inside xs i d e (le-of-suc-le-suc h)
+
   -- a row is built of its own entries
   pub build-getD : (xs : List A) (d : A) → build (length xs) (λ k. getD xs k d) ≡ xs
   build-getD xs d =

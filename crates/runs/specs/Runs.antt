@@ -1,0 +1,73 @@
+-- Where gaps lie and whether their windows are whole (document 01, "Gaps"). Nothing here looks at a value, only at which
+-- readings of one series are missing.
+-- Assumes nothing.
+use Prim.Native.Nat.{ℕ, zero, suc, _+_, _-_, _≤_, _<_}
+use mathlib.Core.Path.{_≡_, refl}
+use mathlib.Core.Bool.{Bool, true, false, not}
+use mathlib.Core.List.{List, [], _∷_, _++_}
+use lib.Dec.{ltb}
+use lib.ListN.{length, getD, drop, replicate}
+use Rattle.rows.specs.Rows.{pick, both, every}
+use Rattle.protocol.specs.Ranges.{missing, mark}
+
+-- the reading at interval i is missing, or there is none: an absent entry serves as little as a missing one
+abbrev pub missingAt : List ℕ → ℕ → Bool
+missingAt row i = missing (getD row i mark)
+
+abbrev pub measuredAt : List ℕ → ℕ → Bool
+measuredAt row i = not (missingAt row i)
+
+-- "A gap is a run, as long as it goes, of consecutive intervals in one device's row where flow, or CH4, is missing":
+-- where the run of missing readings that reaches up to interval i begins
+unfoldable pub gapStart : List ℕ → ℕ → ℕ
+gapStart row zero = 0
+gapStart row (suc i) = pick (missingAt row i) (gapStart row i) (suc i)
+
+-- how many readings at the front of a row are missing
+unfoldable pub run : List ℕ → ℕ
+run [] = 0
+run (v ∷ vs) = pick (missing v) (suc (run vs)) 0
+
+-- the interval after the run of missing readings that begins at interval i or goes on there
+unfoldable pub gapEnd : List ℕ → ℕ → ℕ
+gapEnd row i = i + run (drop i row)
+
+-- the same, as a relation: all of a up to e is missing, and on neither side does the run go on. proofs/Laws.antt has that
+-- gapStart and gapEnd give the one gap around a missing interval.
+pub record IsGap (row : List ℕ) (a e : ℕ) : Type 0 where
+  pub inside : e ≤ length row
+  pub all-missing : (k : ℕ) → a ≤ k → k < e → missingAt row k ≡ true
+  pub first : 0 < a → measuredAt row (a - 1) ≡ true
+  pub last : e < length row → measuredAt row e ≡ true
+
+-- "Its windows are the w intervals directly before and the w directly after" the gap from a up to e: place k of the window
+-- before it, counted back from the gap, and of the window after it, counted on, can be used
+unfoldable pub usable : List ℕ → ℕ → ℕ → ℕ → ℕ → Bool
+usable row a e zero k = both (ltb k a) (measuredAt row (a - (k + 1)))
+usable row a e (suc side) k = measuredAt row (e + k)
+
+-- "all inside the row and all measured in that series; the first missing or absent entry ends the look and the window
+-- isn't whole"
+unfoldable pub whole : List ℕ → ℕ → ℕ → ℕ → Bool
+whole row a e w = every 2 (λ side. every w (usable row a e side))
+
+-- three measured readings, a gap of two, two measured ones
+sample : List ℕ
+sample = 7 ∷ 7 ∷ 7 ∷ mark ∷ mark ∷ 7 ∷ 7 ∷ []
+
+begins : gapStart sample 4 ≡ 3
+unfolding gapStart sample
+begins = refl
+
+ends : gapEnd sample 4 ≡ 5
+unfolding gapEnd run sample
+ends = refl
+
+whole-two : whole sample 3 5 2 ≡ true
+unfolding whole usable sample
+whole-two = refl
+
+-- the row ends before the third place after the gap
+broken-three : whole sample 3 5 3 ≡ false
+unfolding whole usable sample
+broken-three = refl
