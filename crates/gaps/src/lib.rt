@@ -1,0 +1,115 @@
+// The replacement of every gap of one series, each gap found and worked out once.
+ghost use Prim.Native.Nat.{ℕ, _+_, _-_, _≤_, _<_};
+ghost use mathlib.Core.Path.{_≡_};
+ghost use lib.ListN.{length};
+ghost use Rattle.rows.specs.Rows.{build, Continued};
+ghost use Rattle.protocol.specs.Ranges.{flowMost};
+ghost use Rattle.window.specs.Window.{Sized};
+ghost use Rattle.gaps.specs.Gaps.{widthOf, ruleOf, replacementOf, heldFor, filledAt, Goes};
+use window::Tally;
+
+// A replacement is found, or the interval is excluded: the gap has 673 intervals or more, or a window isn't whole.
+pub enum Replacement {
+    Value(u16),
+    TooLong,
+    NotWhole,
+}
+
+// The intervals in each window of a gap. Ruled out: a border of the table off by one; the last class for every gap.
+fn width(gap: usize) -> usize
+    ensures { λ r. ⌜ (r ≡ widthOf gap) × (r ≤ 288) × (0 < r) ⌝ }
+{
+    if gap <= 23 {
+        return 16;
+    }
+    if gap <= 95 {
+        return 96;
+    }
+    288
+}
+
+// Mean or lower limit, by the gap's length. Ruled out: the mean for every gap; the 90 % limit for the longest.
+fn rule(gap: usize, t: Tally) -> u64
+    requires { ⌜ Sized t ⌝ }
+    ensures { λ r. ⌜ r ≡ ruleOf gap t ⌝ }
+{
+    if gap <= 23 {
+        return window::mean(t);
+    }
+    if gap <= 95 {
+        return window::limit(t, 271);
+    }
+    window::limit(t, 385)
+}
+
+// The replacement for the gap from a up to e. Ruled out: the nearest measured value where a window isn't whole; a window
+// that runs past the row.
+pub fn replacement(reading: &[u16], used: &[u16], a: usize, e: usize) -> Replacement
+    requires { ⌜ (a < e) × (e ≤ length (now reading)) × (length (now reading) ≤ 35136) × Goes (now reading) (now used) flowMost ⌝ }
+    ensures { λ r. ⌜ r ≡ replacementOf (now (reading .entry)) (now (used .entry)) a e ⌝ }
+{
+    let gap = e - a;
+    if 673 <= gap {
+        return Replacement::TooLong;
+    }
+    let w = width(gap);
+    if !runs::windows_whole(reading, a, e, w) {
+        return Replacement::NotWhole;
+    }
+    let first = a - w;
+    let last = e + w;
+    let t = window::tally(&used[first..a], &used[e..last]);
+    Replacement::Value(rule(gap, t) as u16)
+}
+
+// What a gap's entries hold until outcomes are given: a value goes on, otherwise the exclusion's outcome is given.
+fn held(answer: Replacement) -> u16
+    ensures { λ r. ⌜ r ≡ heldFor answer ⌝ }
+{
+    let Replacement::Value(v) = answer else {
+        return exclusion(answer);
+    };
+    v
+}
+
+fn exclusion(answer: Replacement) -> u16
+    ensures { λ r. ⌜ r ≡ heldFor answer ⌝ }
+{
+    match answer {
+        Replacement::TooLong => 65508,
+        Replacement::NotWhole => 65509,
+        Replacement::Value(v) => v,
+    }
+}
+
+// The same value at every interval from a up to e.
+fn spread(used: &mut [u16], a: usize, e: usize, v: u16)
+    requires { ⌜ (a ≤ e) × (e ≤ length (now used)) ⌝ }
+    ensures { λ r. ⌜ Continued a e (λ i. v) (now (used .entry)) (now (used .exit)) ⌝ }
+{
+    let mut i = a;
+    while i < e {
+        used[i] = v;
+        i += 1;
+    }
+}
+
+// Every gap's entries get what its replacement holds. Ruled out: a replaced entry used in a later gap's window; a gap
+// worked out from the readings before drift was corrected.
+pub fn fill_gaps(reading: &[u16], used: &mut [u16])
+    requires { ⌜ (length (now reading) ≤ 35136) × Goes (now reading) (now used) flowMost ⌝ }
+    ensures { λ r. ⌜ now (used .exit) ≡ build (length (now (reading .entry))) (filledAt (now (reading .entry)) (now (used .entry))) ⌝ }
+{
+    let n = reading.len();
+    let mut i = 0;
+    while i < n {
+        if reading[i] == 65535 {
+            let e = runs::gap_end(reading, i);
+            let answer = replacement(reading, used, i, e);
+            spread(used, i, e, held(answer));
+            i = e;
+        } else {
+            i += 1;
+        }
+    }
+}
