@@ -2,8 +2,8 @@
 -- Assumes nothing.
 use Prim.Native.Nat.{ℕ, _+_, _-_, _*_, _/_, _≤_}
 use mathlib.Core.Path.{_≡_, refl}
-use lib.IntN.{ℤ, pos, negsuc, subℕ}
-use lib.Signed.{shrZ}
+use lib.IntN.{ℤ, pos, negsuc, subℕ, _*ℤ_}
+use lib.Signed.{shrZ, _≤ℤ_}
 use Rattle.rows.specs.Rows.{sumTo}
 use Rattle.protocol.specs.Numbers.{protocol, methaneMg, carbonMg}
 use Rattle.protocol.specs.Kinds.{thousandthsOf}
@@ -67,6 +67,11 @@ tonne = 1000000000
 unfoldable pub tonnesOf : ℤ → ℤ
 tonnesOf reduction = shrZ reduction tonne
 
+-- what that means, for negative reductions too: the greatest whole number of tonnes that is not above the reduction
+pub record IsTonnes (reduction t : ℤ) : Type 0 where
+  pub not-above : (t *ℤ pos tonne) ≤ℤ reduction
+  pub greatest : (s : ℤ) → (s *ℤ pos tonne) ≤ℤ reduction → s ≤ℤ t
+
 -- "credits = tonnes, or 0 if negative"
 unfoldable pub creditsOf : ℤ → ℕ
 creditsOf (pos n) = n
@@ -75,6 +80,17 @@ creditsOf (negsuc n) = 0
 -- the most methane litres that a device can have in a year, 35,136 intervals of 11,168,127
 abbrev pub deviceMost : ℕ
 deviceMost = 392403310272
+
+-- litres, thousandths and a rounding whose product and sum fit 64 bits
+pub record Shared (q thousandths more : ℕ) : Type 0 where
+  pub q-most : q ≤ deviceMost
+  pub thousandths-most : thousandths ≤ 1000
+  pub more-most : more ≤ 999
+
+-- what adds and what subtracts are at most 2^62, so that their difference is a signed number of 64 bits
+pub record Moderate (credit debit : ℕ) : Type 0 where
+  pub credit-most : credit ≤ 4611686018427387904
+  pub debit-most : debit ≤ 4611686018427387904
 
 -- "Q 50,000, kind 2: 49,750 and 250; CO2 91,253,938 mg"
 destroyed-example : destroyedOf 2 50000 ≡ 49750

@@ -11,8 +11,7 @@ pub fn litres(flow: u16, temp: i16, press: u32) -> u64
     ensures { λ r. ⌜ (r ≡ litresOf flow temp press) × (r ≤ litresMost) ⌝ }
 {
     let kelvin = protocol::kelvin(temp);
-    let over = (flow as u64) * 100 * Protocol::KELVIN * (press as u64);
-    over / (kelvin * Protocol::PASCAL)
+    (flow as u64) * 100 * Protocol::KELVIN * (press as u64) / (kelvin * Protocol::PASCAL)
 }
 
 // Litres of methane in so many litres of gas. Ruled out: rounded up or to the nearest; the content taken for thousandths.
