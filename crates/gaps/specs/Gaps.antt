@@ -11,7 +11,7 @@ use Rattle.rows.specs.Rows.{pick, cut}
 use Rattle.protocol.specs.Ranges.{mark}
 use Rattle.window.specs.Window.{tallyOf, meanOf, limitOf, z90, z95}
 use Rattle.window.specs.declared.Tally.{Tally}
-use Rattle.runs.specs.Runs.{missingAt, gapStart, gapEnd, whole}
+use Rattle.runs.specs.Runs.{missingAt, gapStart, gapEnd, whole, excluding}
 use Rattle.gaps.specs.declared.Replacement.{Replacement}
 use Rattle.gaps.specs.declared.Replacement.the-variants.{Value, TooLong, NotWhole}
 
@@ -40,12 +40,12 @@ replacementOf reading corrected a e =
 unfoldable pub replacementAt : List ℕ → List ℕ → ℕ → Replacement
 replacementAt reading corrected i = replacementOf reading corrected (gapStart reading i) (gapEnd reading i)
 
--- What a gap's entries hold until outcomes are given: the replacement, or 65,500 and the number of the outcome that
--- excludes the interval, which no reading reaches.
+-- what a gap's entries hold until outcomes are given: the replacement, or which outcome excludes the interval, "8 that gap
+-- has 673 or more; 9 its window isn't whole"
 unfoldable pub heldFor : Replacement → ℕ
 heldFor (Value v) = v
-heldFor TooLong = 65508
-heldFor NotWhole = 65509
+heldFor TooLong = excluding + 8
+heldFor NotWhole = excluding + 9
 
 unfoldable pub filledAt : List ℕ → List ℕ → ℕ → ℕ
 filledAt reading corrected i = pick (missingAt reading i) (heldFor (replacementAt reading corrected i)) (getD corrected i mark)
