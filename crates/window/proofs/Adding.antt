@@ -1,8 +1,8 @@
 -- A window's sums as a loop's invariant: what is added and what is left make the whole. Start, step and end.
 -- Assumes nothing.
 use Prim.Native.Nat.{ℕ, suc, _+_, _*_, _≤_, _<_}
-use mathlib.Core.Path.{_≡_, refl, sym, ap, _∙_, subst}
-use mathlib.Core.List.{List, [], _∷_, map}
+use mathlib.Core.Path.{_≡_, sym, ap, ap₂, _∙_, subst}
+use mathlib.Core.List.{List, [], _∷_, _++_, map}
 use native.Mathlib.Nat.{mul-le-mul-right, le-antisymm}
 use native.Mathlib.Numerals.{add-one}
 use native.Mathlib.Omega.{arith}
@@ -10,8 +10,8 @@ use lib.ListN.{length, getD, drop}
 use lib.Seq.{drop-cons, drop-length}
 use Rattle.rows.specs.Rows.{total}
 use Rattle.window.specs.declared.Tally.{Tally}
-use Rattle.window.specs.Window.{tallyOf, Low}
-use Rattle.window.proofs.Laws.{total-most, squares-most}
+use Rattle.window.specs.Window.{tallyOf, Low, Windows, Sized}
+use Rattle.window.proofs.Laws.{total-most, squares-most, tally-append, windows-sized}
 
 abbrev pub squared : List ℕ → List ℕ
 squared xs = map (λ v. v * v) xs
@@ -83,3 +83,14 @@ adding-all xs sum squares i a h = λ j. record { n = end j; sum = all j; squares
 
     all-squares : squares ≡ total (squared xs)
     all-squares = let z : total (squared (drop i xs)) ≡ 0 = ap (λ (ys : List ℕ). total (squared ys)) nothing in omega (arith, a .left-squares)
+
+-- ---- the two windows together
+
+abbrev pub sums : Tally → Tally → Tally
+sums a b = record { n = a .n + b .n; sum = a .sum + b .sum; squares = a .squares + b .squares }
+
+pub sums-are : (a b : Tally) (xs ys : List ℕ) → a ≡ tallyOf xs → b ≡ tallyOf ys → sums a b ≡ tallyOf (xs ++ ys)
+sums-are a b xs ys p q = ap₂ sums p q ∙ sym (tally-append xs ys)
+
+pub sums-sized : (a b : Tally) (xs ys : List ℕ) → a ≡ tallyOf xs → b ≡ tallyOf ys → Windows xs ys → Sized (sums a b)
+sums-sized a b xs ys p q w = subst Sized (sym (sums-are a b xs ys p q)) (windows-sized xs ys w)

@@ -194,7 +194,7 @@ limit-is t z p =
     record {
       reached = λ h. meets-true t z (limitOf t z) (greatest-passes (meets t z) (meanOf t) h);
       greatest = λ M h m. elim (decLe M (meanOf t)) [
-        yes l ↦ meets-false t z M (greatest-last (meets t z) (meanOf t) M h l) m
+        | yes l ↦ meets-false t z M (greatest-last (meets t z) (meanOf t) M h l) m
         | no n ↦ above-mean t z M p (lt-of-not-le n) m
       ];
     }
@@ -202,7 +202,7 @@ limit-is t z p =
 no-less : (t : Tally) (z L M : ℕ) → IsLimit t z L → IsLimit t z M → M ≤ L
 no-less t z L M x y =
     elim (decLe M L) [
-      yes l ↦ l
+      | yes l ↦ l
       | no n ↦ absurd (x .greatest M (lt-of-not-le n) (y .reached (lt-of-le-of-lt (zero-le) (lt-of-not-le n))))
     ]
 
