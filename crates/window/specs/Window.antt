@@ -6,7 +6,7 @@ use mathlib.Core.Path.{_≡_, refl}
 use mathlib.Core.Bool.{Bool, true, false}
 use mathlib.Core.List.{List, [], _∷_, _++_, map}
 use lib.Dec.{leb}
-use lib.ListN.{length, replicate}
+use lib.ListN.{length, getD, replicate}
 use Rattle.rows.specs.Rows.{both, total}
 use Rattle.window.specs.declared.Tally.{Tally}
 
@@ -18,11 +18,18 @@ tallyOf xs = record { n = length xs; sum = total xs; squares = total (map (λ v.
 unfoldable pub meanOf : Tally → ℕ
 meanOf t = t .sum / t .n
 
--- The lower limit: "the greatest whole L, 0 or more, with S at least nL and z2 × (n Q2 - S²) at most n × (S - nL)²;
--- 0 if there is none". z is z2 in hundredths, and S² stands on the other side, so that nothing is cut off at 0.
+-- The two sides of "z2 × (n Q2 - S²) at most n × (S - nL)²". z is z2 in hundredths, and S² stands on the other side, so
+-- that nothing is cut off at 0.
+abbrev pub spreadOf : Tally → ℕ → ℕ
+spreadOf t z = z * (t .n * t .squares)
+
+abbrev pub allowedOf : Tally → ℕ → ℕ → ℕ
+allowedOf t z L = z * (t .sum * t .sum) + 100 * (t .n * ((t .sum - t .n * L) * (t .sum - t .n * L)))
+
+-- The lower limit: "the greatest whole L, 0 or more, with S at least nL and" that; "0 if there is none"
 pub record Meets (t : Tally) (z L : ℕ) : Type 0 where
   pub room : t .n * L ≤ t .sum
-  pub spread : z * (t .n * t .squares) ≤ z * (t .sum * t .sum) + 100 * (t .n * ((t .sum - t .n * L) * (t .sum - t .n * L)))
+  pub spread : spreadOf t z ≤ allowedOf t z L
 
 pub record IsLimit (t : Tally) (z L : ℕ) : Type 0 where
   pub reached : 0 < L → Meets t z L
@@ -30,9 +37,7 @@ pub record IsLimit (t : Tally) (z L : ℕ) : Type 0 where
 
 -- the same condition as a test
 unfoldable pub meets : Tally → ℕ → ℕ → Bool
-meets t z L =
-    both (leb (t .n * L) (t .sum))
-    (leb (z * (t .n * t .squares)) (z * (t .sum * t .sum) + 100 * (t .n * ((t .sum - t .n * L) * (t .sum - t .n * L)))))
+meets t z L = both (leb (t .n * L) (t .sum)) (leb (spreadOf t z) (allowedOf t z L))
 
 -- the greatest whole number up to k that passes a test, or 0
 unfoldable pub greatestUpTo : (ℕ → Bool) → ℕ → ℕ
@@ -49,6 +54,18 @@ z90 = 271
 
 abbrev pub z95 : ℕ
 z95 = 385
+
+-- every value of a list is at most so much
+pub record Low (most : ℕ) (xs : List ℕ) : Type 0 where
+  pub low : (k : ℕ) → k < length xs → getD xs k 0 ≤ most
+
+-- the two windows of a gap: "w" is at most 288, and a reading of either series at most 30,000
+pub record Windows (before after : List ℕ) : Type 0 where
+  pub some : 0 < length before + length after
+  pub few-before : length before ≤ 288
+  pub few-after : length after ≤ 288
+  pub low-before : Low 30000 before
+  pub low-after : Low 30000 after
 
 -- what the numbers of a gap's two windows stay within, so that the largest product, 100 × 576 × (S - nL)², fits 64 bits
 pub record Sized (t : Tally) : Type 0 where

@@ -1,0 +1,4 @@
+pub mod Laws
+pub mod Fit
+pub mod Adding
+pub mod Halving
