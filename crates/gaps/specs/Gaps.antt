@@ -16,13 +16,23 @@ use Rattle.gaps.specs.declared.Replacement.{Replacement}
 use Rattle.gaps.specs.declared.Replacement.the-variants.{Value, TooLong, NotWhole}
 
 -- The table: "1..23 | 16 | mean of the 32", "24..95 | 96 | lower 90 % limit of the 192", "96..672 | 288 | lower 95 % limit
--- of the 576", "673 or more | none". The window of a gap of so many intervals:
+-- of the 576", "673 or more | none". Its lines, by the intervals of a gap:
+abbrev pub upTo23 : ℕ → Bool
+upTo23 gap = leb gap 23
+
+abbrev pub upTo95 : ℕ → Bool
+upTo95 gap = leb gap 95
+
+abbrev pub from673 : ℕ → Bool
+from673 gap = leb 673 gap
+
+-- the window,
 unfoldable pub widthOf : ℕ → ℕ
-widthOf gap = pick (leb gap 23) 16 (pick (leb gap 95) 96 288)
+widthOf gap = pick (upTo23 gap) 16 (pick (upTo95 gap) 96 288)
 
 -- and the replacement, from the statistics of its two windows
 unfoldable pub ruleOf : ℕ → Tally → ℕ
-ruleOf gap t = pick (leb gap 23) (meanOf t) (pick (leb gap 95) (limitOf t z90) (limitOf t z95))
+ruleOf gap t = pick (upTo23 gap) (meanOf t) (pick (upTo95 gap) (limitOf t z90) (limitOf t z95))
 
 -- the corrected values of "the w intervals directly before and the w directly after" the gap from a up to e
 unfoldable pub windowValues : List ℕ → ℕ → ℕ → ℕ → List ℕ
@@ -31,7 +41,7 @@ windowValues corrected a e w = cut corrected (a - w) a ++ cut corrected e (e + w
 -- the replacement for the gap from a up to e, or why there is none
 unfoldable pub replacementOf : List ℕ → List ℕ → ℕ → ℕ → Replacement
 replacementOf reading corrected a e =
-    pick (leb 673 (e - a)) TooLong
+    pick (from673 (e - a)) TooLong
     (pick (whole reading a e (widthOf (e - a)))
     (Value (ruleOf (e - a) (tallyOf (windowValues corrected a e (widthOf (e - a))))))
     NotWhole)

@@ -29,14 +29,14 @@ fn width(gap: usize) -> usize
 }
 
 // Mean or lower limit, by the gap's length. Ruled out: the mean for every gap; the 90 % limit for the longest.
-fn rule(gap: usize, t: Tally) -> u64
+fn rule(missing: usize, t: Tally) -> u64
     requires { ⌜ Sized t ⌝ }
-    ensures { λ r. ⌜ r ≡ ruleOf gap t ⌝ }
+    ensures { λ r. ⌜ r ≡ ruleOf missing t ⌝ }
 {
-    if gap <= 23 {
+    if missing <= 23 {
         return window::mean(t);
     }
-    if gap <= 95 {
+    if missing <= 95 {
         return window::limit(t, 271);
     }
     window::limit(t, 385)
@@ -44,7 +44,7 @@ fn rule(gap: usize, t: Tally) -> u64
 
 // The replacement for the gap from a up to e. Ruled out: the nearest measured value where a window isn't whole; a window
 // that runs past the row.
-pub fn replacement(reading: &[u16], used: &[u16], a: usize, e: usize) -> Replacement
+pub fn replace_gap(reading: &[u16], used: &[u16], a: usize, e: usize) -> Replacement
     requires { ⌜ (a < e) × (e ≤ length (now reading)) × (length (now reading) ≤ 35136) × Goes (now reading) (now used) flowMost ⌝ }
     ensures { λ r. ⌜ r ≡ replacementOf (now (reading .entry)) (now (used .entry)) a e ⌝ }
 {
@@ -58,7 +58,7 @@ pub fn replacement(reading: &[u16], used: &[u16], a: usize, e: usize) -> Replace
     }
     let first = a - w;
     let last = e + w;
-    let t = window::tally(&used[first..a], &used[e..last]);
+    let t = window::tally_of(&used[first..a], &used[e..last]);
     Replacement::Value(rule(gap, t) as u16)
 }
 
@@ -105,7 +105,7 @@ pub fn fill_gaps(reading: &[u16], used: &mut [u16])
     while i < n {
         if reading[i] == 65535 {
             let e = runs::gap_end(reading, i);
-            let answer = replacement(reading, used, i, e);
+            let answer = replace_gap(reading, used, i, e);
             spread(used, i, e, held(answer));
             i = e;
         } else {
