@@ -1,5 +1,5 @@
 // Drift correction of one instrument's row, in time that grows with the row and the checks.
-ghost use Prim.Native.Nat.{ℕ, _≤_, _<_};
+ghost use Prim.Native.Nat.{ℕ, _≤_, _<_, max};
 ghost use mathlib.Core.Path.{_≡_};
 ghost use lib.ListN.{length, getD};
 ghost use Rattle.rows.specs.Rows.{build, Continued};
@@ -13,6 +13,12 @@ pub fn passed(drift: i32) -> bool
         return false;
     }
     !(499 < drift)
+}
+
+fn greater(a: u64, b: u64) -> u64
+    ensures { λ r. ⌜ r ≡ max a b ⌝ }
+{
+    if a < b { b } else { a }
 }
 
 // The readings from start up to end, with a drift taken out.
@@ -43,23 +49,22 @@ pub fn correct(reading: &[u16], count: u32, places: &[u32], drifts: &[i32], used
         (correctedAt (record { count = count; places = now (places .entry); drifts = now (drifts .entry) }) (now (reading .entry))) ⌝ }
 {
     let n = reading.len();
+    let k = count as usize;
     let mut start = 0;
     let mut most = 0;
     let mut j = 0;
-    while j < count {
-        let drift = drifts[j as usize];
+    while j < k {
+        let drift = drifts[j];
         if passed(drift) {
-            let end = places[j as usize] as usize;
+            let end = places[j] as usize;
             stretch(reading, start, end, most, used);
             start = end;
             most = 0;
+            j += 1;
         } else {
-            let high = protocol::raise(drift, 0);
-            if most < high {
-                most = high;
-            }
+            most = greater(most, protocol::raise(drift, 0));
+            j += 1;
         }
-        j += 1;
     }
     stretch(reading, start, n, most, used);
 }

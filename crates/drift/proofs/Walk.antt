@@ -1,0 +1,174 @@
+-- The walk over an instrument's checks that corrects a row: its invariant, with start, steps and end.
+-- Assumes nothing.
+use Prim.Native.Nat.{ℕ, zero, suc, _+_, _≤_, _<_, max}
+use mathlib.Core.Path.{_≡_, refl, sym, ap, ap₂, _∙_, subst}
+use mathlib.Core.Bool.{Bool, true, false, not}
+use mathlib.Core.List.{List, [], _∷_, _++_}
+use mathlib.Core.Logic.{_⊎_, inl, inr, ⊎-elim}
+use native.Mathlib.Nat.{lt-of-not-le, le-refl, not-suc-le-zero, eq-or-lt-of-le, le-of-suc-le-suc, max-le}
+use native.Mathlib.Numerals.{add-one}
+use native.Mathlib.Decide.{decLe}
+use native.Mathlib.Omega.{arith}
+use lib.Dec.{ltb, leb}
+use lib.ListN.{length, getD, drop}
+use borrow.Author.Tests.{le-leb, lt-leb}
+use Rattle.rows.specs.Rows.{pick, both, build, Continued}
+use Rattle.rows.proofs.Laws.{build-done}
+use Rattle.protocol.specs.Ranges.{raised}
+use Rattle.drift.specs.Drift.{Instrument, positionOf, driftOf, passes, excess, excessIn, maxTo, stretchDrift, keptOr, correctedAt, Ordered, PassedAt, Stretch}
+use Rattle.drift.proofs.Laws.{maxTo-ext, maxTo-cut, maxTo-zero, excess-passed, pick-zero}
+use Rattle.drift.proofs.Stretches.{stretch-drift}
+
+both-true : (a : Bool) → both a true ≡ a
+both-true true = refl
+both-true false = refl
+
+both-false : (a : Bool) → both a false ≡ false
+both-false true = refl
+both-false false = refl
+
+clash : {X : Type 0} → true ≡ false → X
+clash e = let z : _≡_ {A = ℕ} 0 1 = cc in absurd (let w : ⊥ = omega arith in w)
+
+-- by how much check m reads high, if it stands at or after start
+abbrev pub excessFrom : Instrument → ℕ → ℕ → ℕ
+excessFrom c start m = pick (leb start (positionOf c m)) (excess c m) 0
+
+-- j checks are walked, the row is corrected up to start, where the open stretch begins, and `most` is the greatest excess
+-- that was met in it
+pub record Walked (c : Instrument) (reading old used : List ℕ) (j start most : ℕ) : Type 0 where
+  pub ordered : Ordered c (length reading)
+  pub counted : j ≤ c .count
+  pub opens : (start ≡ 0) ⊎ PassedAt c start
+  pub behind : (m : ℕ) → m < j → passes c m ≡ true → positionOf c m ≤ start
+  pub ahead : (m : ℕ) → j ≤ m → m < c .count → start ≤ positionOf c m
+  pub inside : start ≤ length reading
+  pub greatest : most ≡ maxTo j (excessFrom c start)
+  pub small : most < 4294967296
+  pub grown : used ≡ build start (correctedAt c reading) ++ drop start old
+  pub same-length : length used ≡ length reading
+  pub old-length : length old ≡ length reading
+
+module _ (c : Instrument) (reading old : List ℕ) where
+  pub walked-none : Ordered c (length reading) → length old ≡ length reading → Walked c reading old old 0 0 0
+  walked-none o l =
+      record {
+        ordered = o;
+        counted = omega arith;
+        opens = inl refl;
+        behind = λ m h. absurd (not-suc-le-zero h);
+        ahead = λ m h k. omega arith;
+        inside = omega arith;
+        greatest = refl;
+        small = omega arith;
+        grown = refl;
+        same-length = l;
+        old-length = l;
+      }
+
+  module _ (used new : List ℕ) (j start most : ℕ) (x : Walked c reading old used j start most) where
+    -- where the open stretch closes at t, `most` is the drift of its intervals
+    closed : (t : ℕ) → (t ≡ length reading) ⊎ PassedAt c t
+        → ((m : ℕ) → m < j → positionOf c m ≤ t)
+        → ((m : ℕ) → j ≤ m → m < c .count → (t ≤ positionOf c m) × ((passes c m ≡ true) ⊎ (t < positionOf c m)))
+        → (i : ℕ) → start ≤ i → i < t → stretchDrift c i ≡ most
+    closed t z below above i low high =
+        stretch-drift c (length reading) start t i (x .ordered)
+        (record { opens = x .opens; closes = z; uncut = uncut })
+        low high
+        ∙ maxTo-cut (c .count) j (excessIn c start t) (excessFrom c start) (x .counted) near far
+        ∙ sym (x .greatest)
+      where
+        uncut : (m : ℕ) → m < c .count → passes c m ≡ true → start < positionOf c m → positionOf c m < t → ⊥
+        uncut m l e a b =
+            elim (decLe j m) [
+              yes h ↦ (let w : t ≤ positionOf c m = above m h l .0 in omega arith)
+              | no h ↦ (let w : positionOf c m ≤ start = x .behind m (lt-of-not-le h) e in omega arith)
+            ]
+
+        near : (m : ℕ) → m < j → excessIn c start t m ≡ excessFrom c start m
+        near m h = ap (λ (b : Bool). pick b (excess c m) 0)
+            (ap (both (leb start (positionOf c m))) (le-leb (positionOf c m) t (below m h)) ∙ both-true (leb start (positionOf c m)))
+
+        far : (m : ℕ) → j ≤ m → m < c .count → excessIn c start t m ≡ 0
+        far m h l =
+            ⊎-elim
+            (λ e. pick-zero (both (leb start (positionOf c m)) (leb (positionOf c m) t)) (excess c m) (excess-passed c m e))
+            (λ k. ap (λ (b : Bool). pick b (excess c m) 0)
+            (ap (both (leb start (positionOf c m))) (lt-leb (positionOf c m) t k) ∙ both-false (leb start (positionOf c m))))
+            (above m h l .1)
+
+    -- what the writer of the open stretch up to t leaves
+    written : (t : ℕ) → ((i : ℕ) → start ≤ i → i < t → stretchDrift c i ≡ most) → Continued start t (keptOr most reading) used new
+        → new ≡ build t (correctedAt c reading) ++ drop t old
+    unfolding correctedAt
+    written t e k =
+        k .continued (correctedAt c reading) old (x .old-length ∙ sym (x .same-length))
+        (λ i a b. ap (λ (d : ℕ). keptOr d reading i) (e i a b)) (x .grown)
+
+    pub walked-passed : j < c .count → passes c j ≡ true → Continued start (positionOf c j) (keptOr most reading) used new
+        → Walked c reading old new (j + 1) (positionOf c j) 0
+    walked-passed l e k =
+        record {
+          ordered = x .ordered;
+          counted = omega arith;
+          opens = inr here;
+          behind = λ m h p. ⊎-elim (λ q. ap-le m q) (λ s. let w = x .ordered .rising m j s l in omega arith) (upTo m h);
+          ahead = λ m h p. let w = x .ordered .rising j m (omega arith) p in omega arith;
+          inside = x .ordered .inside j l;
+          greatest = sym (maxTo-zero (j + 1) (excessFrom c (positionOf c j)) none);
+          small = omega arith;
+          grown = written (positionOf c j) (closed (positionOf c j) (inr here) (λ m s. let w = x .ordered .rising m j s l in omega arith) above) k;
+          same-length = k .same-length ∙ x .same-length;
+          old-length = x .old-length;
+        }
+      where
+        here : PassedAt c (positionOf c j)
+        here = record { check = j; counted = l; passed = e; here = refl }
+
+        upTo : (m : ℕ) → m < j + 1 → (m ≡ j) ⊎ (m < j)
+        upTo m h = eq-or-lt-of-le (let w : m ≤ j = omega arith in w)
+
+        ap-le : (m : ℕ) → m ≡ j → positionOf c m ≤ positionOf c j
+        ap-le m q = let w = ap (positionOf c) q in omega arith
+
+        none : (m : ℕ) → m < j + 1 → excessFrom c (positionOf c j) m ≡ 0
+        none m h =
+            ⊎-elim
+            (λ q. pick-zero (leb (positionOf c j) (positionOf c m)) (excess c m) (excess-passed c m (ap (passes c) q ∙ e)))
+            (λ s. ap (λ (b : Bool). pick b (excess c m) 0) (lt-leb (positionOf c j) (positionOf c m) (x .ordered .rising m j s l)))
+            (upTo m h)
+
+        above : (m : ℕ) → j ≤ m → m < c .count → (positionOf c j ≤ positionOf c m) × ((passes c m ≡ true) ⊎ (positionOf c j < positionOf c m))
+        above m h p =
+            ⊎-elim
+            (λ q. (let w = ap (positionOf c) q in omega arith, inl (ap (passes c) (sym q) ∙ e)))
+            (λ s. (let w = x .ordered .rising j m s p in omega arith, inr (x .ordered .rising j m s p)))
+            (eq-or-lt-of-le h)
+
+    pub walked-failed : (r : ℕ) → j < c .count → passes c j ≡ false → raised 0 (driftOf c j) < 4294967296
+        → r ≡ max most (raised 0 (driftOf c j)) → Walked c reading old used (j + 1) start r
+    walked-failed r l e b q =
+        record {
+          ordered = x .ordered;
+          counted = omega arith;
+          opens = x .opens;
+          behind = λ m h p. ⊎-elim (λ y. clash (sym p ∙ ap (passes c) y ∙ e)) (λ s. x .behind m s p) (eq-or-lt-of-le (let w : m ≤ j = omega arith in w));
+          ahead = λ m h p. x .ahead m (omega arith) p;
+          inside = x .inside;
+          greatest = q ∙ ap₂ max (x .greatest) (sym (ap₂ (λ (a b : Bool). pick a (pick b 0 (raised 0 (driftOf c j))) 0)
+            (le-leb start (positionOf c j) (x .ahead j (le-refl j) l)) e)) ∙ ap (λ (m : ℕ). maxTo m (excessFrom c start)) (sym (add-one j));
+          small = let w = q in let y = max-le {k = 4294967295} (le-of-suc-le-suc (x .small)) (le-of-suc-le-suc b) in omega arith;
+          grown = x .grown;
+          same-length = x .same-length;
+          old-length = x .old-length;
+        }
+
+    pub walked-all : c .count ≤ j → Continued start (length reading) (keptOr most reading) used new
+        → new ≡ build (length reading) (correctedAt c reading)
+    walked-all l k =
+        written (length reading)
+        (closed (length reading) (inl refl)
+        (λ m s. x .ordered .inside m (let w = x .counted in omega arith))
+        (λ m h p. absurd (let w : ⊥ = omega arith in w))) k
+        ∙ build-done (length reading) (correctedAt c reading) old (x .old-length)
