@@ -44,6 +44,22 @@ kept-none reading i = go (missing (getD reading i mark)) refl
     go true e = kept-missing 0 reading i e ∙ sym (eqb-true (getD reading i mark) mark e)
     go false e = kept-measured 0 reading i e ∙ corrected-none (getD reading i mark)
 
+-- the two cases as the code meets them: its reads have 0 outside the row
+module _ (d : ℕ) (reading : List ℕ) (i : ℕ) (h : i < length reading) where
+  pub kept-marks : getD reading i 0 ≡ mark → getD reading i 0 ≡ keptOr d reading i
+  kept-marks e = e ∙ sym (kept-missing d reading i (eq-eqb (getD reading i mark) mark (inside-row reading i mark 0 h ∙ e)))
+
+  pub kept-divides : (getD reading i 0 ≡ mark → ⊥) → getD reading i 0 * 10000 / (10000 + d) ≡ keptOr d reading i
+  unfolding corrected
+  kept-divides e =
+      ap (λ (v : ℕ). v * 10000 / (10000 + d)) (inside-row reading i 0 mark h)
+      ∙ sym (kept-measured d reading i (ne-eqb (getD reading i mark) mark (λ q. e (inside-row reading i 0 mark h ∙ q))))
+
+-- a quotient of the code's is no greater than its reading, so it fits where that does
+pub quotient-le : (d v : ℕ) → v * 10000 / (10000 + d) ≤ v
+unfolding corrected
+quotient-le d v = corrected-le d v
+
 -- ---- the same of a row
 
 module _ (c : Instrument) (reading : List ℕ) (i : ℕ) where

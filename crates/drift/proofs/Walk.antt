@@ -10,10 +10,11 @@ use native.Mathlib.Numerals.{add-one}
 use native.Mathlib.Decide.{decLe}
 use native.Mathlib.Omega.{arith}
 use lib.Dec.{ltb, leb}
-use lib.ListN.{length, getD, drop}
+use lib.ListN.{length, getD, drop, set}
 use borrow.Author.Tests.{le-leb, lt-leb}
 use Rattle.rows.specs.Rows.{pick, both, build, Continued}
 use Rattle.rows.proofs.Laws.{build-done}
+use Rattle.rows.proofs.Fill.{continued-more}
 use Rattle.protocol.specs.Ranges.{raised}
 use Rattle.drift.specs.Drift.{Instrument, positionOf, driftOf, passes, excess, excessIn, maxTo, stretchDrift, keptOr, correctedAt, Ordered, PassedAt, Stretch}
 use Rattle.drift.proofs.Laws.{maxTo-ext, maxTo-cut, maxTo-zero, excess-passed, pick-zero}
@@ -29,6 +30,12 @@ both-false false = refl
 
 clash : {X : Type 0} → true ≡ false → X
 clash e = let z : _≡_ {A = ℕ} 0 1 = cc in absurd (let w : ⊥ = omega arith in w)
+
+-- one store of the writer of a stretch
+pub stored : (a i v : ℕ) (g : ℕ → ℕ) (old new : List ℕ) → a ≤ i → i < length old → v ≡ g i → Continued a i g old new
+    → Continued a (i + 1) g old (set new i v)
+stored a i v g old new l m e c =
+    subst (λ (w : ℕ). Continued a (i + 1) g old (set new i w)) (sym e) (continued-more a i g old new l m c)
 
 -- by how much check m reads high, if it stands at or after start
 abbrev pub excessFrom : Instrument → ℕ → ℕ → ℕ

@@ -1,11 +1,13 @@
 use borrow.Author.Needs.{needs}
 use Prim.Native.Nat.{ℕ, _+_, _*_, _/_, _-_, _≤_, _<_}
-use mathlib.Core.Path.{_≡_}
+use mathlib.Core.Path.{_≡_, subst}
 use native.Mathlib.Omega.{arith}
 use lib.ListN.{length, getD}
 use Rattle.rows.specs.Rows.{Continued}
-use Rattle.rows.proofs.Fill.{continued-none, continued-more}
+use Rattle.rows.proofs.Fill.{continued-none}
 use Rattle.drift.specs.Drift.{keptOr}
+use Rattle.drift.proofs.Laws.{kept-marks, kept-divides, quotient-le}
+use Rattle.drift.proofs.Walk.{stored}
 use Rattle.drift.proofs.stretch.Statement.{statement}
 use Rattle.drift.proofs.stretch.Tie as tie
 use Rattle.drift.proofs.stretch.Reads as reads
@@ -49,15 +51,18 @@ loop-less c = search needs
 
 -- src/lib.rt:30:5
 loop-again : tie.Need-loop-again Inv-loop μ-loop
-loop-again c = search needs
+loop-again c = (search needs, search needs, search needs, search needs, search needs, search needs,
+    stored _ (c .before .before .before .loop .i) _ (keptOr (c .before .before .before .before .args .drift) (c .before .before .before .before .args .reading .now)) _ (c .before .before .before .loop .used) (omega arith) (omega arith)
+    (kept-marks (c .before .before .before .before .args .drift) (c .before .before .before .before .args .reading .now) (c .before .before .before .loop .i) (omega arith) (c .if1 .taken))
+    (c .before .before .before .loop .inv .6))
 
 -- src/lib.rt:36:25
 cast-used : tie.Need-cast-used Inv-loop μ-loop
-cast-used c = search needs
+cast-used c = let h = c .before .shared-slice-known .given (c .before .before .before .loop .i) in search needs
 
 -- src/lib.rt:36:24
 mul-used-2 : tie.Need-mul-used-2 Inv-loop μ-loop
-mul-used-2 c = search needs
+mul-used-2 c = let h = c .before .shared-slice-known .given (c .before .before .before .loop .i) in search needs
 
 -- src/lib.rt:36:46
 add-used : tie.Need-add-used Inv-loop μ-loop
@@ -69,7 +74,9 @@ div-used c = search needs
 
 -- src/lib.rt:36:23
 cast-used-2 : tie.Need-cast-used-2 Inv-loop μ-loop
-cast-used-2 c = search needs
+cast-used-2 c = let h = c .before .shared-slice-known .given (c .before .before .before .loop .i) in
+    let q = quotient-le (c .before .before .before .before .args .drift) (getD (c .before .before .before .before .args .reading .now) (c .before .before .before .loop .i) 0) in
+    search needs
 
 -- src/lib.rt:36:13
 mul-used-3 : tie.Need-mul-used-3 Inv-loop μ-loop
@@ -89,7 +96,10 @@ loop-less-2 c = search needs
 
 -- src/lib.rt:30:5
 loop-again-2 : tie.Need-loop-again-2 Inv-loop μ-loop
-loop-again-2 c = search needs
+loop-again-2 c = (search needs, search needs, search needs, search needs, search needs, search needs,
+    stored _ (c .before .before .before .loop .i) _ (keptOr (c .before .before .before .before .args .drift) (c .before .before .before .before .args .reading .now)) _ (c .before .before .before .loop .used) (omega arith) (omega arith)
+    (kept-divides (c .before .before .before .before .args .drift) (c .before .before .before .before .args .reading .now) (c .before .before .before .loop .i) (omega arith) (c .if1 .left))
+    (c .before .before .before .loop .inv .6))
 
 -- src/lib.rt:25:1
 same-length : tie.Need-same-length Inv-loop μ-loop
@@ -97,7 +107,8 @@ same-length c = search needs
 
 -- src/lib.rt:25:1
 returns : tie.Need-returns Inv-loop μ-loop
-returns c = search needs
+returns c = subst (λ (m : ℕ). Continued (c .before .before .args .start) m (keptOr (c .before .before .args .drift) (c .before .before .args .reading .now)) (c .before .before .args .used .now) (c .before .loop .used))
+    (let w : c .before .loop .i ≡ c .before .before .args .end = omega arith in w) (c .before .loop .inv .6)
 
 pub stretch-spec : {M : Type 1} → statement M
 stretch-spec =
