@@ -1,6 +1,6 @@
 -- The walk over an instrument's checks that corrects a row: its invariant, with start, steps and end.
 -- Assumes nothing.
-use Prim.Native.Nat.{ℕ, zero, suc, _+_, _≤_, _<_, max}
+use Prim.Native.Nat.{ℕ, zero, suc, _+_, _≤_, _<_, _^_, max}
 use mathlib.Core.Path.{_≡_, refl, sym, ap, ap₂, _∙_, subst}
 use mathlib.Core.Bool.{Bool, true, false, not}
 use mathlib.Core.List.{List, [], _∷_, _++_}
@@ -10,13 +10,18 @@ use native.Mathlib.Numerals.{add-one}
 use native.Mathlib.Decide.{decLe}
 use native.Mathlib.Omega.{arith}
 use lib.Dec.{ltb, leb}
+use lib.IntN.{ℤ, pos, negsuc}
+use lib.Signed.{mag}
+use mir.Syntax.{w32}
+use mir.Val.{toZ, ofZ}
+use mir.Facts.{toZ-ofZ}
 use lib.ListN.{length, getD, drop, set}
 use borrow.Author.Tests.{le-leb, lt-leb}
 use Rattle.rows.specs.Rows.{pick, both, build, Continued}
 use Rattle.rows.proofs.Laws.{build-done}
 use Rattle.rows.proofs.Fill.{continued-more}
 use Rattle.protocol.specs.Ranges.{raised}
-use Rattle.drift.specs.Drift.{Instrument, positionOf, driftOf, passes, excess, excessIn, maxTo, stretchDrift, keptOr, correctedAt, Ordered, PassedAt, Stretch}
+use Rattle.drift.specs.Drift.{Instrument, within, positionOf, driftOf, passes, excess, excessIn, maxTo, stretchDrift, keptOr, correctedAt, Ordered, PassedAt, Stretch}
 use Rattle.drift.proofs.Laws.{maxTo-ext, maxTo-cut, maxTo-zero, excess-passed, pick-zero}
 use Rattle.drift.proofs.Stretches.{stretch-drift}
 
@@ -30,6 +35,22 @@ both-false false = refl
 
 clash : {X : Type 0} → true ≡ false → X
 clash e = let z : _≡_ {A = ℕ} 0 1 = cc in absurd (let w : ⊥ = omega arith in w)
+
+-- the code's reads of a drift, whose bits it takes and reads as signed again
+module _ (z : ℤ) (h : mag z < 2 ^ 31) where
+  read-back : toZ w32 (ofZ w32 z) ≡ z
+  read-back = toZ-ofZ {w = w32} {z = z} (record { sfits = h })
+
+  pub read-passes : (r b : Bool) → r ≡ within (toZ w32 (ofZ w32 z)) → r ≡ b → within z ≡ b
+  read-passes r b e f = sym (ap within read-back) ∙ sym e ∙ f
+
+  pub read-greater : (a r s : ℕ) → r ≡ raised 0 (toZ w32 (ofZ w32 z)) → s ≡ max a r → s ≡ max a (raised 0 z)
+  read-greater a r s e f = f ∙ ap (max a) (e ∙ ap (raised 0) read-back)
+
+-- what a drift of 32 bits takes out fits 32 bits
+pub excess-small : (z : ℤ) → mag z < 2 ^ 31 → raised 0 z < 4294967296
+excess-small (pos n) h = omega arith
+excess-small (negsuc n) h = omega arith
 
 -- one store of the writer of a stretch
 pub stored : (a i v : ℕ) (g : ℕ → ℕ) (old new : List ℕ) → a ≤ i → i < length old → v ≡ g i → Continued a i g old new
@@ -72,6 +93,25 @@ module _ (c : Instrument) (reading old : List ℕ) where
         same-length = l;
         old-length = l;
       }
+
+  module _ (used : List ℕ) (j start most : ℕ) (x : Walked c reading old used j start most) where
+    pub walked-failed : (r : ℕ) → j < c .count → passes c j ≡ false → raised 0 (driftOf c j) < 4294967296
+        → r ≡ max most (raised 0 (driftOf c j)) → Walked c reading old used (j + 1) start r
+    walked-failed r l e b q =
+        record {
+          ordered = x .ordered;
+          counted = omega arith;
+          opens = x .opens;
+          behind = λ m h p. ⊎-elim (λ y. clash (sym p ∙ ap (passes c) y ∙ e)) (λ s. x .behind m s p) (eq-or-lt-of-le (let w : m ≤ j = omega arith in w));
+          ahead = λ m h p. x .ahead m (omega arith) p;
+          inside = x .inside;
+          greatest = q ∙ ap₂ max (x .greatest) (sym (ap₂ (λ (a b : Bool). pick a (pick b 0 (raised 0 (driftOf c j))) 0)
+            (le-leb start (positionOf c j) (x .ahead j (le-refl j) l)) e)) ∙ ap (λ (m : ℕ). maxTo m (excessFrom c start)) (sym (add-one j));
+          small = let w = q in let y = max-le {k = 4294967295} (le-of-suc-le-suc (x .small)) (le-of-suc-le-suc b) in omega arith;
+          grown = x .grown;
+          same-length = x .same-length;
+          old-length = x .old-length;
+        }
 
   module _ (used new : List ℕ) (j start most : ℕ) (x : Walked c reading old used j start most) where
     -- where the open stretch closes at t, `most` is the drift of its intervals
@@ -152,24 +192,6 @@ module _ (c : Instrument) (reading old : List ℕ) where
             (λ q. (let w = ap (positionOf c) q in omega arith, inl (ap (passes c) (sym q) ∙ e)))
             (λ s. (let w = x .ordered .rising j m s p in omega arith, inr (x .ordered .rising j m s p)))
             (eq-or-lt-of-le h)
-
-    pub walked-failed : (r : ℕ) → j < c .count → passes c j ≡ false → raised 0 (driftOf c j) < 4294967296
-        → r ≡ max most (raised 0 (driftOf c j)) → Walked c reading old used (j + 1) start r
-    walked-failed r l e b q =
-        record {
-          ordered = x .ordered;
-          counted = omega arith;
-          opens = x .opens;
-          behind = λ m h p. ⊎-elim (λ y. clash (sym p ∙ ap (passes c) y ∙ e)) (λ s. x .behind m s p) (eq-or-lt-of-le (let w : m ≤ j = omega arith in w));
-          ahead = λ m h p. x .ahead m (omega arith) p;
-          inside = x .inside;
-          greatest = q ∙ ap₂ max (x .greatest) (sym (ap₂ (λ (a b : Bool). pick a (pick b 0 (raised 0 (driftOf c j))) 0)
-            (le-leb start (positionOf c j) (x .ahead j (le-refl j) l)) e)) ∙ ap (λ (m : ℕ). maxTo m (excessFrom c start)) (sym (add-one j));
-          small = let w = q in let y = max-le {k = 4294967295} (le-of-suc-le-suc (x .small)) (le-of-suc-le-suc b) in omega arith;
-          grown = x .grown;
-          same-length = x .same-length;
-          old-length = x .old-length;
-        }
 
     pub walked-all : c .count ≤ j → Continued start (length reading) (keptOr most reading) used new
         → new ≡ build (length reading) (correctedAt c reading)
