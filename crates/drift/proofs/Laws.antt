@@ -3,16 +3,16 @@
 -- Assumes nothing.
 use Prim.Native.Nat.{ℕ, zero, suc, _+_, _*_, _/_, _≤_, _<_, max}
 use mathlib.Core.Path.{_≡_, refl, sym, ap, ap₂, _∙_, subst}
-use mathlib.Core.Bool.{Bool, true, false, not}
-use mathlib.Core.List.{List, [], _∷_}
-use mathlib.Core.Logic.{_⊎_, ⊎-elim}
-use native.Mathlib.Nat.{div-le-of-le-mul, mul-div-cancel, not-suc-le-zero, le-step, lt-suc-self, eq-or-lt-of-le, le-of-suc-le-suc, max-zero}
+use mathlib.Core.Bool.{Bool, true, false}
+use mathlib.Core.List.{List}
+use mathlib.Core.Logic.{⊎-elim}
+use native.Mathlib.Nat.{div-le-of-le-mul, mul-div-cancel, not-suc-le-zero, le-step, lt-suc-self, eq-or-lt-of-le, le-of-suc-le-suc, le-trans, le-of-lt, lt-of-not-le, max-zero, le-max-left, le-max-right, max-eq-left, max-eq-right}
+use native.Mathlib.Decide.{decLe}
 use native.Mathlib.Omega.{arith}
-use lib.Dec.{eqb}
-use lib.ListN.{length, getD, drop}
+use lib.ListN.{length, getD}
 use lib.Seq.{drop-cons}
 use borrow.Author.Tests.{eqb-true, eqb-false, eq-eqb, ne-eqb}
-use Rattle.rows.specs.Rows.{pick, both, every}
+use Rattle.rows.specs.Rows.{pick}
 use Rattle.protocol.specs.Ranges.{mark, missing}
 use Rattle.drift.specs.Drift.{Instrument, passes, together, excess, maxTo, stretchDrift, corrected, keptOr, correctedAt}
 
@@ -91,6 +91,21 @@ module _ (c : Instrument) (reading : List ℕ) (i : ℕ) where
           let q = corrected-le (stretchDrift c i) (getD reading i mark) in
           omega arith))
 
+  -- where measured readings are at most b, so are measured corrected values, and the same ones are missing
+  module _ (b : ℕ) (small : b < mark) (right : missing (getD reading i mark) ≡ false → getD reading i mark ≤ b) where
+    up-to-mark : getD reading i mark ≤ mark
+    up-to-mark = go (missing (getD reading i mark)) refl
+      where
+        go : (t : Bool) → missing (getD reading i mark) ≡ t → getD reading i mark ≤ mark
+        go true e = let q = eqb-true (getD reading i mark) mark e in omega arith
+        go false e = let q = right e in omega arith
+
+    pub bounded-missing : missing (correctedAt c reading i) ≡ missing (getD reading i mark)
+    bounded-missing = same-missing up-to-mark
+
+    pub bounded-value : missing (correctedAt c reading i) ≡ false → correctedAt c reading i ≤ b
+    bounded-value e = let f = sym bounded-missing ∙ e in at-bounded b f (right f)
+
 -- ---- the greatest of some numbers
 
 pub maxTo-ext : (n : ℕ) (f g : ℕ → ℕ) → ((k : ℕ) → k < n → f k ≡ g k) → maxTo n f ≡ maxTo n g
@@ -110,6 +125,33 @@ maxTo-cut (suc n) j f g l h z =
 
 pub maxTo-zero : (n : ℕ) (f : ℕ → ℕ) → ((k : ℕ) → k < n → f k ≡ 0) → maxTo n f ≡ 0
 maxTo-zero n f h = maxTo-cut n 0 f f (omega arith) (λ k l. absurd (not-suc-le-zero l)) (λ k p q. h k q)
+
+pub maxTo-most : (n : ℕ) (f : ℕ → ℕ) (k : ℕ) → k < n → f k ≤ maxTo n f
+maxTo-most zero f k l = absurd (not-suc-le-zero l)
+maxTo-most (suc n) f k l =
+    ⊎-elim
+    (λ e. subst (λ (m : ℕ). f m ≤ max (maxTo n f) (f n)) (sym e) (le-max-right (maxTo n f) (f n)))
+    (λ s. le-trans (maxTo-most n f k s) (le-max-left (maxTo n f) (f n)))
+    (eq-or-lt-of-le (le-of-suc-le-suc l))
+
+-- an index at which f is d
+pub record MetAt (n : ℕ) (f : ℕ → ℕ) (d : ℕ) : Type 0 where
+  pub place : ℕ
+  pub below : place < n
+  pub value : f place ≡ d
+
+pub maxTo-met : (n : ℕ) (f : ℕ → ℕ) → 0 < maxTo n f → MetAt n f (maxTo n f)
+maxTo-met zero f h = absurd (not-suc-le-zero h)
+maxTo-met (suc n) f h =
+    elim (decLe (maxTo n f) (f n)) [
+      | yes g ↦ record { place = n; below = lt-suc-self n; value = sym (max-eq-right g) }
+      | no g ↦ later (maxTo-met n f) (max-eq-left (le-of-lt (lt-of-not-le g)))
+    ]
+  where
+    later : (0 < maxTo n f → MetAt n f (maxTo n f)) → max (maxTo n f) (f n) ≡ maxTo n f → MetAt (suc n) f (max (maxTo n f) (f n))
+    later g e =
+        let m = g (subst (λ (r : ℕ). 0 < r) e h) in
+        record { place = m .place; below = le-step (m .below); value = m .value ∙ sym e }
 
 -- ---- no check fails
 

@@ -1,29 +1,29 @@
 -- The walk over an instrument's checks that corrects a row: its invariant, with start, steps and end.
 -- Assumes nothing.
-use Prim.Native.Nat.{ℕ, zero, suc, _+_, _≤_, _<_, _^_, max}
+use Prim.Native.Nat.{ℕ, _+_, _≤_, _<_, _^_, max}
 use mathlib.Core.Path.{_≡_, refl, sym, ap, ap₂, _∙_, subst}
-use mathlib.Core.Bool.{Bool, true, false, not}
-use mathlib.Core.List.{List, [], _∷_, _++_}
+use mathlib.Core.Bool.{Bool, true, false}
+use mathlib.Core.List.{List, _++_}
 use mathlib.Core.Logic.{_⊎_, inl, inr, ⊎-elim}
 use native.Mathlib.Nat.{lt-of-not-le, le-refl, not-suc-le-zero, eq-or-lt-of-le, le-of-suc-le-suc, max-le}
 use native.Mathlib.Numerals.{add-one}
 use native.Mathlib.Decide.{decLe}
 use native.Mathlib.Omega.{arith}
-use lib.Dec.{ltb, leb}
+use lib.Dec.{leb}
 use lib.IntN.{ℤ, pos, negsuc}
 use lib.Signed.{mag}
 use mir.Syntax.{w32}
 use mir.Val.{toZ, ofZ}
 use mir.Facts.{toZ-ofZ}
-use lib.ListN.{length, getD, drop, set}
+use lib.ListN.{length, drop, set}
 use borrow.Author.Tests.{le-leb, lt-leb}
 use Rattle.rows.specs.Rows.{pick, both, build, Continued}
 use Rattle.rows.proofs.Laws.{build-done}
 use Rattle.rows.proofs.Fill.{continued-more}
 use Rattle.protocol.specs.Ranges.{raised}
-use Rattle.drift.specs.Drift.{Instrument, within, positionOf, driftOf, passes, excess, excessIn, maxTo, stretchDrift, keptOr, correctedAt, Ordered, PassedAt, Stretch}
-use Rattle.drift.proofs.Laws.{maxTo-ext, maxTo-cut, maxTo-zero, excess-passed, pick-zero}
-use Rattle.drift.proofs.Stretches.{stretch-drift}
+use Rattle.drift.specs.Drift.{Instrument, within, positionOf, driftOf, passes, excess, excessIn, maxTo, stretchDrift, keptOr, correctedAt, Ordered, PassedAt}
+use Rattle.drift.proofs.Laws.{maxTo-cut, maxTo-zero, excess-passed, pick-zero}
+use Rattle.drift.proofs.Stretches.{stretch-drift, clash}
 
 both-true : (a : Bool) → both a true ≡ a
 both-true true = refl
@@ -32,9 +32,6 @@ both-true false = refl
 both-false : (a : Bool) → both a false ≡ false
 both-false true = refl
 both-false false = refl
-
-clash : {X : Type 0} → true ≡ false → X
-clash e = let z : _≡_ {A = ℕ} 0 1 = cc in absurd (let w : ⊥ = omega arith in w)
 
 -- the code's reads of a drift, whose bits it takes and reads as signed again
 module _ (z : ℤ) (h : mag z < 2 ^ 31) where
@@ -102,11 +99,11 @@ module _ (c : Instrument) (reading old : List ℕ) where
           ordered = x .ordered;
           counted = omega arith;
           opens = x .opens;
-          behind = λ m h p. ⊎-elim (λ y. clash (sym p ∙ ap (passes c) y ∙ e)) (λ s. x .behind m s p) (eq-or-lt-of-le (let w : m ≤ j = omega arith in w));
+          behind = λ m h p. ⊎-elim (λ y. clash p (ap (passes c) y ∙ e)) (λ s. x .behind m s p) (eq-or-lt-of-le (let w : m ≤ j = omega arith in w));
           ahead = λ m h p. x .ahead m (omega arith) p;
           inside = x .inside;
           greatest = q ∙ ap₂ max (x .greatest) (sym (ap₂ (λ (a b : Bool). pick a (pick b 0 (raised 0 (driftOf c j))) 0)
-            (le-leb start (positionOf c j) (x .ahead j (le-refl j) l)) e)) ∙ ap (λ (m : ℕ). maxTo m (excessFrom c start)) (sym (add-one j));
+              (le-leb start (positionOf c j) (x .ahead j (le-refl j) l)) e)) ∙ ap (λ (m : ℕ). maxTo m (excessFrom c start)) (sym (add-one j));
           small = let w = q in let y = max-le {k = 4294967295} (le-of-suc-le-suc (x .small)) (le-of-suc-le-suc b) in omega arith;
           grown = x .grown;
           same-length = x .same-length;
@@ -129,7 +126,7 @@ module _ (c : Instrument) (reading old : List ℕ) where
         uncut : (m : ℕ) → m < c .count → passes c m ≡ true → start < positionOf c m → positionOf c m < t → ⊥
         uncut m l e a b =
             elim (decLe j m) [
-              yes h ↦ (let w : t ≤ positionOf c m = above m h l .0 in omega arith)
+              | yes h ↦ (let w : t ≤ positionOf c m = above m h l .0 in omega arith)
               | no h ↦ (let w : positionOf c m ≤ start = x .behind m (lt-of-not-le h) e in omega arith)
             ]
 

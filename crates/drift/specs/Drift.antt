@@ -88,7 +88,22 @@ pub record Stretch (c : Instrument) (n s t : ℕ) : Type 0 where
   pub closes : (t ≡ n) ⊎ PassedAt c t
   pub uncut : (m : ℕ) → m < c .count → passes c m ≡ true → s < positionOf c m → positionOf c m < t → ⊥
 
--- by how much a check of the stretch from s to t reads high; its checks stand from s to t, the record's ends included
+-- a failed check of the stretch from s to t has the drift d; its checks stand from s to t, the record's ends included
+pub record FailedIn (c : Instrument) (s t d : ℕ) : Type 0 where
+  pub check : ℕ
+  pub counted : check < c .count
+  pub failed : passes c check ≡ false
+  pub after : s ≤ positionOf c check
+  pub before : positionOf c check ≤ t
+  pub has : driftOf c check ≡ pos d
+
+-- "In a stretch with failed checks, d is their greatest drift", or 0 where that is not above 0.
+-- `stretchDrift` is proved to be the one such d (proofs/Stretches.antt).
+pub record Greatest (c : Instrument) (s t d : ℕ) : Type 0 where
+  pub most : (j : ℕ) → j < c .count → passes c j ≡ false → s ≤ positionOf c j → positionOf c j ≤ t → raised 0 (driftOf c j) ≤ d
+  pub met : 0 < d → FailedIn c s t d
+
+-- by how much a check of the stretch from s to t reads high
 abbrev pub excessIn : Instrument → ℕ → ℕ → ℕ → ℕ
 excessIn c s t j = pick (both (leb s (positionOf c j)) (leb (positionOf c j) t)) (excess c j) 0
 

@@ -1,17 +1,15 @@
+-- `drift::passed` meets its contract: the two tests of a range of signed numbers.
+-- Assumes nothing.
 use mathlib.Core.Path.{sym}
 use lib.IntN.{pos, negsuc}
 use mir.Syntax.{w32}
 use Rattle.protocol.proofs.SignedLaws.{below-range, above-range}
 use Rattle.drift.proofs.passed.Statement.{statement}
 use Rattle.drift.proofs.passed.Tie as tie
-use Rattle.drift.proofs.passed.Reads as reads
-use Rattle.drift.proofs.passed.Lts as lts
 
--- src/lib.rt:13:9
 returns : tie.Need-returns
 returns c = sym (below-range w32 (negsuc 498) (pos 499) (c .before .args .drift) (c .before .fits .drift) (c .if1 .taken))
 
--- src/lib.rt:9:1
 returns-2 : tie.Need-returns-2
 returns-2 c = above-range w32 (negsuc 498) (pos 499) (c .before .args .drift) (c .before .fits .drift) (c .if1 .left)
 
