@@ -1,12 +1,12 @@
 -- What a corrected reading is, for callers: marked exactly where the reading is, never above it, and the reading itself
 -- where nothing is taken out.
 -- Assumes nothing.
-use Prim.Native.Nat.{ℕ, zero, suc, _+_, _*_, _/_, _≤_, _<_, max}
+use Prim.Native.Nat.{ℕ, zero, suc, _+_, _*_, _/_, _-_, _≤_, _<_, max}
 use mathlib.Core.Path.{_≡_, refl, sym, ap, ap₂, _∙_, subst}
 use mathlib.Core.Bool.{Bool, true, false}
 use mathlib.Core.List.{List}
 use mathlib.Core.Logic.{⊎-elim}
-use native.Mathlib.Nat.{div-le-of-le-mul, mul-div-cancel, not-suc-le-zero, le-step, lt-suc-self, eq-or-lt-of-le, le-of-suc-le-suc, le-trans, le-of-lt, lt-of-not-le, max-zero, le-max-left, le-max-right, max-eq-left, max-eq-right}
+use native.Mathlib.Nat.{mul-le-mul-left, div-le-of-le-mul, mul-div-cancel, not-suc-le-zero, le-step, lt-suc-self, eq-or-lt-of-le, le-of-suc-le-suc, le-trans, le-of-lt, lt-of-not-le, max-zero, le-max-left, le-max-right, max-eq-left, max-eq-right}
 use native.Mathlib.Decide.{decLe}
 use native.Mathlib.Omega.{arith}
 use lib.ListN.{length, getD}
@@ -44,21 +44,20 @@ kept-none reading i = go (missing (getD reading i mark)) refl
     go true e = kept-missing 0 reading i e ∙ sym (eqb-true (getD reading i mark) mark e)
     go false e = kept-measured 0 reading i e ∙ corrected-none (getD reading i mark)
 
--- the two cases as the code meets them: its reads have 0 outside the row
-module _ (d : ℕ) (reading : List ℕ) (i : ℕ) (h : i < length reading) where
-  pub kept-marks : getD reading i 0 ≡ mark → getD reading i 0 ≡ keptOr d reading i
-  kept-marks e = e ∙ sym (kept-missing d reading i (eq-eqb (getD reading i mark) mark (inside-row reading i mark 0 h ∙ e)))
+-- the two cases as the code meets them: its reads have 0 outside the row, and it divides by 10,000 and the drift
+module _ (e : ℕ) (reading : List ℕ) (i : ℕ) (h : i < length reading) where
+  pub kept-marks : getD reading i 0 ≡ mark → getD reading i 0 ≡ keptOr (e - 10000) reading i
+  kept-marks q = q ∙ sym (kept-missing (e - 10000) reading i (eq-eqb (getD reading i mark) mark (inside-row reading i mark 0 h ∙ q)))
 
-  pub kept-divides : (getD reading i 0 ≡ mark → ⊥) → getD reading i 0 * 10000 / (10000 + d) ≡ keptOr d reading i
+  pub kept-divides : 10000 ≤ e → (getD reading i 0 ≡ mark → ⊥) → getD reading i 0 * 10000 / e ≡ keptOr (e - 10000) reading i
   unfolding corrected
-  kept-divides e =
-      ap (λ (v : ℕ). v * 10000 / (10000 + d)) (inside-row reading i 0 mark h)
-      ∙ sym (kept-measured d reading i (ne-eqb (getD reading i mark) mark (λ q. e (inside-row reading i 0 mark h ∙ q))))
+  kept-divides l q =
+      ap₂ (λ (v d : ℕ). v * 10000 / d) (inside-row reading i 0 mark h) (let w : e ≡ 10000 + (e - 10000) = omega arith in w)
+      ∙ sym (kept-measured (e - 10000) reading i (ne-eqb (getD reading i mark) mark (λ r. q (inside-row reading i 0 mark h ∙ r))))
 
 -- a quotient of the code's is no greater than its reading, so it fits where that does
-pub quotient-le : (d v : ℕ) → v * 10000 / (10000 + d) ≤ v
-unfolding corrected
-quotient-le d v = corrected-le d v
+pub quotient-le : (e v : ℕ) → 10000 ≤ e → v * 10000 / e ≤ v
+quotient-le e v l = div-le-of-le-mul e (let w : v * 10000 ≤ v * e = mul-le-mul-left v l in omega arith)
 
 -- ---- the same of a row
 

@@ -1,11 +1,11 @@
 -- The walk over an instrument's checks that corrects a row: its invariant, with start, steps and end.
 -- Assumes nothing.
-use Prim.Native.Nat.{ℕ, _+_, _≤_, _<_, _^_, max}
+use Prim.Native.Nat.{ℕ, _+_, _-_, _≤_, _<_, _^_, max}
 use mathlib.Core.Path.{_≡_, refl, sym, ap, ap₂, _∙_, subst}
 use mathlib.Core.Bool.{Bool, true, false}
 use mathlib.Core.List.{List, _++_}
 use mathlib.Core.Logic.{_⊎_, inl, inr, ⊎-elim}
-use native.Mathlib.Nat.{lt-of-not-le, le-refl, not-suc-le-zero, eq-or-lt-of-le, le-of-suc-le-suc, max-le}
+use native.Mathlib.Nat.{lt-of-not-le, le-refl, not-suc-le-zero, eq-or-lt-of-le, le-of-suc-le-suc, max-eq-left, add-max-add-right}
 use native.Mathlib.Numerals.{add-one}
 use native.Mathlib.Decide.{decLe}
 use native.Mathlib.Omega.{arith}
@@ -41,13 +41,15 @@ module _ (z : ℤ) (h : mag z < 2 ^ 31) where
   pub read-passes : (r b : Bool) → r ≡ within (toZ w32 (ofZ w32 z)) → r ≡ b → within z ≡ b
   read-passes r b e f = sym (ap within read-back) ∙ sym e ∙ f
 
-  pub read-greater : (a r s : ℕ) → r ≡ raised 0 (toZ w32 (ofZ w32 z)) → s ≡ max a r → s ≡ max a (raised 0 z)
-  read-greater a r s e f = f ∙ ap (max a) (e ∙ ap (raised 0) read-back)
+  pub read-greater : (a r s : ℕ) → r ≡ raised 10000 (toZ w32 (ofZ w32 z)) → s ≡ max a r → s ≡ max a (raised 10000 z)
+  read-greater a r s e f = f ∙ ap (max a) (e ∙ ap (raised 10000) read-back)
 
--- what a drift of 32 bits takes out fits 32 bits
-pub excess-small : (z : ℤ) → mag z < 2 ^ 31 → raised 0 z < 4294967296
-excess-small (pos n) h = omega arith
-excess-small (negsuc n) h = omega arith
+-- the greater of two divisors is that of the greater drift, and a drift below 0 counts as 0
+raised-max : (a : ℕ) (z : ℤ) → max (a + 10000) (raised 10000 z) ≡ max a (raised 0 z) + 10000
+raised-max a (pos n) = add-max-add-right a n 10000 ∙ ap (λ (m : ℕ). max a m + 10000) (let w : n ≡ n + 0 = omega arith in w)
+raised-max a (negsuc n) =
+    max-eq-left (let w : 10000 - (n + 1) ≤ a + 10000 = omega arith in w)
+    ∙ ap (λ (m : ℕ). m + 10000) (sym (max-eq-left (let w : 0 - (n + 1) ≤ a = omega arith in w)))
 
 -- one store of the writer of a stretch
 pub stored : (a i v : ℕ) (g : ℕ → ℕ) (old new : List ℕ) → a ≤ i → i < length old → v ≡ g i → Continued a i g old new
@@ -59,23 +61,22 @@ stored a i v g old new l m e c =
 abbrev pub excessFrom : Instrument → ℕ → ℕ → ℕ
 excessFrom c start m = pick (leb start (positionOf c m)) (excess c m) 0
 
--- j checks are walked, the row is corrected up to start, where the open stretch begins, and `most` is the greatest excess
--- that was met in it
-pub record Walked (c : Instrument) (reading old used : List ℕ) (j start most : ℕ) : Type 0 where
+-- j checks are walked, the row is corrected up to start, where the open stretch begins, and the divisor is 10,000 and the greatest
+-- excess that was met in it
+pub record Walked (c : Instrument) (reading old used : List ℕ) (j start divisor : ℕ) : Type 0 where
   pub ordered : Ordered c (length reading)
   pub counted : j ≤ c .count
   pub opens : (start ≡ 0) ⊎ PassedAt c start
   pub behind : (m : ℕ) → m < j → passes c m ≡ true → positionOf c m ≤ start
   pub ahead : (m : ℕ) → j ≤ m → m < c .count → start ≤ positionOf c m
   pub inside : start ≤ length reading
-  pub greatest : most ≡ maxTo j (excessFrom c start)
-  pub small : most < 4294967296
+  pub greatest : divisor ≡ maxTo j (excessFrom c start) + 10000
   pub grown : used ≡ build start (correctedAt c reading) ++ drop start old
   pub same-length : length used ≡ length reading
   pub old-length : length old ≡ length reading
 
 module _ (c : Instrument) (reading old : List ℕ) where
-  pub walked-none : Ordered c (length reading) → length old ≡ length reading → Walked c reading old old 0 0 0
+  pub walked-none : Ordered c (length reading) → length old ≡ length reading → Walked c reading old old 0 0 10000
   walked-none o l =
       record {
         ordered = o;
@@ -85,16 +86,20 @@ module _ (c : Instrument) (reading old : List ℕ) where
         ahead = λ m h k. omega arith;
         inside = omega arith;
         greatest = refl;
-        small = omega arith;
         grown = refl;
         same-length = l;
         old-length = l;
       }
 
-  module _ (used : List ℕ) (j start most : ℕ) (x : Walked c reading old used j start most) where
-    pub walked-failed : (r : ℕ) → j < c .count → passes c j ≡ false → raised 0 (driftOf c j) < 4294967296
-        → r ≡ max most (raised 0 (driftOf c j)) → Walked c reading old used (j + 1) start r
-    walked-failed r l e b q =
+  module _ (used : List ℕ) (j start divisor : ℕ) (x : Walked c reading old used j start divisor) where
+    -- a failed check's drift, where the check stands in the open stretch
+    met : j < c .count → passes c j ≡ false → raised 0 (driftOf c j) ≡ excessFrom c start j
+    met l e =
+        sym (ap₂ (λ (a b : Bool). pick a (pick b 0 (raised 0 (driftOf c j))) 0) (le-leb start (positionOf c j) (x .ahead j (le-refl j) l)) e)
+
+    pub walked-failed : (r : ℕ) → j < c .count → passes c j ≡ false → r ≡ max divisor (raised 10000 (driftOf c j))
+        → Walked c reading old used (j + 1) start r
+    walked-failed r l e q =
         record {
           ordered = x .ordered;
           counted = omega arith;
@@ -102,26 +107,27 @@ module _ (c : Instrument) (reading old : List ℕ) where
           behind = λ m h p. ⊎-elim (λ y. clash p (ap (passes c) y ∙ e)) (λ s. x .behind m s p) (eq-or-lt-of-le (let w : m ≤ j = omega arith in w));
           ahead = λ m h p. x .ahead m (omega arith) p;
           inside = x .inside;
-          greatest = q ∙ ap₂ max (x .greatest) (sym (ap₂ (λ (a b : Bool). pick a (pick b 0 (raised 0 (driftOf c j))) 0)
-              (le-leb start (positionOf c j) (x .ahead j (le-refl j) l)) e)) ∙ ap (λ (m : ℕ). maxTo m (excessFrom c start)) (sym (add-one j));
-          small = let w = q in let y = max-le {k = 4294967295} (le-of-suc-le-suc (x .small)) (le-of-suc-le-suc b) in omega arith;
+          greatest = q ∙ ap (λ (d : ℕ). max d (raised 10000 (driftOf c j))) (x .greatest)
+              ∙ raised-max (maxTo j (excessFrom c start)) (driftOf c j)
+              ∙ ap (λ (d : ℕ). max (maxTo j (excessFrom c start)) d + 10000) (met l e)
+              ∙ ap (λ (m : ℕ). maxTo m (excessFrom c start) + 10000) (sym (add-one j));
           grown = x .grown;
           same-length = x .same-length;
           old-length = x .old-length;
         }
 
-  module _ (used new : List ℕ) (j start most : ℕ) (x : Walked c reading old used j start most) where
-    -- where the open stretch closes at t, `most` is the drift of its intervals
+  module _ (used new : List ℕ) (j start divisor : ℕ) (x : Walked c reading old used j start divisor) where
+    -- where the open stretch closes at t, the divisor has the drift of its intervals
     closed : (t : ℕ) → (t ≡ length reading) ⊎ PassedAt c t
         → ((m : ℕ) → m < j → positionOf c m ≤ t)
         → ((m : ℕ) → j ≤ m → m < c .count → (t ≤ positionOf c m) × ((passes c m ≡ true) ⊎ (t < positionOf c m)))
-        → (i : ℕ) → start ≤ i → i < t → stretchDrift c i ≡ most
+        → (i : ℕ) → start ≤ i → i < t → stretchDrift c i ≡ divisor - 10000
     closed t z below above i low high =
         stretch-drift c (length reading) start t i (x .ordered)
         (record { opens = x .opens; closes = z; uncut = uncut })
         low high
         ∙ maxTo-cut (c .count) j (excessIn c start t) (excessFrom c start) (x .counted) near far
-        ∙ sym (x .greatest)
+        ∙ (let q = x .greatest in let w : maxTo j (excessFrom c start) ≡ divisor - 10000 = omega arith in w)
       where
         uncut : (m : ℕ) → m < c .count → passes c m ≡ true → start < positionOf c m → positionOf c m < t → ⊥
         uncut m l e a b =
@@ -143,15 +149,15 @@ module _ (c : Instrument) (reading old : List ℕ) where
             (above m h l .1)
 
     -- what the writer of the open stretch up to t leaves
-    written : (t : ℕ) → ((i : ℕ) → start ≤ i → i < t → stretchDrift c i ≡ most) → Continued start t (keptOr most reading) used new
+    written : (t : ℕ) → ((i : ℕ) → start ≤ i → i < t → stretchDrift c i ≡ divisor - 10000) → Continued start t (keptOr (divisor - 10000) reading) used new
         → new ≡ build t (correctedAt c reading) ++ drop t old
     unfolding correctedAt
     written t e k =
         k .continued (correctedAt c reading) old (x .old-length ∙ sym (x .same-length))
         (λ i a b. ap (λ (d : ℕ). keptOr d reading i) (e i a b)) (x .grown)
 
-    pub walked-passed : j < c .count → passes c j ≡ true → Continued start (positionOf c j) (keptOr most reading) used new
-        → Walked c reading old new (j + 1) (positionOf c j) 0
+    pub walked-passed : j < c .count → passes c j ≡ true → Continued start (positionOf c j) (keptOr (divisor - 10000) reading) used new
+        → Walked c reading old new (j + 1) (positionOf c j) 10000
     walked-passed l e k =
         record {
           ordered = x .ordered;
@@ -160,8 +166,7 @@ module _ (c : Instrument) (reading old : List ℕ) where
           behind = λ m h p. ⊎-elim (λ q. ap-le m q) (λ s. let w = x .ordered .rising m j s l in omega arith) (upTo m h);
           ahead = λ m h p. let w = x .ordered .rising j m (omega arith) p in omega arith;
           inside = x .ordered .inside j l;
-          greatest = sym (maxTo-zero (j + 1) (excessFrom c (positionOf c j)) none);
-          small = omega arith;
+          greatest = let q = maxTo-zero (j + 1) (excessFrom c (positionOf c j)) none in omega arith;
           grown = written (positionOf c j) (closed (positionOf c j) (inr here) (λ m s. let w = x .ordered .rising m j s l in omega arith) above) k;
           same-length = k .same-length ∙ x .same-length;
           old-length = x .old-length;
@@ -190,7 +195,7 @@ module _ (c : Instrument) (reading old : List ℕ) where
             (λ s. (let w = x .ordered .rising j m s p in omega arith, inr (x .ordered .rising j m s p)))
             (eq-or-lt-of-le h)
 
-    pub walked-all : c .count ≤ j → Continued start (length reading) (keptOr most reading) used new
+    pub walked-all : c .count ≤ j → Continued start (length reading) (keptOr (divisor - 10000) reading) used new
         → new ≡ build (length reading) (correctedAt c reading)
     walked-all l k =
         written (length reading)

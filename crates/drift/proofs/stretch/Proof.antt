@@ -13,34 +13,42 @@ use Rattle.drift.proofs.stretch.Statement.{statement}
 use Rattle.drift.proofs.stretch.Tie as tie
 
 abbrev Inv-loop : tie.InvT-loop
-Inv-loop reading start end drift used₀ i₀ used i =
+Inv-loop reading start end divisor used₀ i₀ used i =
     (start ≤ i) × (i ≤ end) × (end ≤ length reading) × (length used₀ ≡ length reading) × (length used ≡ length reading)
-    × (drift < 4294967296) × Continued start i (keptOr drift reading) used₀ used
+    × (10000 ≤ divisor) × Continued start i (keptOr (divisor - 10000) reading) used₀ used
 
 abbrev μ-loop : tie.MeasureT-loop
-μ-loop reading start end drift used₀ i₀ used i = end - i
+μ-loop reading start end divisor used₀ i₀ used i = end - i
 
+-- src/lib.rt:30:5
 loop-holds : tie.Need-loop-holds Inv-loop μ-loop
 loop-holds c = search needs
 
+-- src/lib.rt:31:17
 mul-v : tie.Need-mul-v Inv-loop μ-loop
 mul-v c = search needs
 
+-- src/lib.rt:31:17
 shared-slice-read-v : tie.Need-shared-slice-read-v Inv-loop μ-loop
 shared-slice-read-v c = search needs
 
+-- src/lib.rt:33:13
 mul-used : tie.Need-mul-used Inv-loop μ-loop
 mul-used c = search needs
 
+-- src/lib.rt:33:13
 slice-write-used : tie.Need-slice-write-used Inv-loop μ-loop
 slice-write-used c = search needs
 
+-- src/lib.rt:34:13
 add-i : tie.Need-add-i Inv-loop μ-loop
 add-i c = search needs
 
+-- src/lib.rt:30:5
 loop-less : tie.Need-loop-less Inv-loop μ-loop
 loop-less c = search needs
 
+-- src/lib.rt:30:5
 loop-again : tie.Need-loop-again Inv-loop μ-loop
 loop-again c = (
   search needs,
@@ -49,40 +57,46 @@ loop-again c = (
   search needs,
   search needs,
   search needs,
-  stored _ (c .before .before .before .loop .i) _ (keptOr (c .before .before .before .before .args .drift) (c .before .before .before .before .args .reading .now)) _ (c .before .before .before .loop .used) (omega arith) (omega arith)
-      (kept-marks (c .before .before .before .before .args .drift) (c .before .before .before .before .args .reading .now) (c .before .before .before .loop .i) (omega arith) (c .if1 .taken))
+  stored _ (c .before .before .before .loop .i) _ (keptOr (c .before .before .before .before .args .divisor - 10000) (c .before .before .before .before .args .reading .now)) _ (c .before .before .before .loop .used) (omega arith) (omega arith)
+      (kept-marks (c .before .before .before .before .args .divisor) (c .before .before .before .before .args .reading .now) (c .before .before .before .loop .i) (omega arith) (c .if1 .taken))
       (c .before .before .before .loop .inv .6),
 )
 
+-- src/lib.rt:36:25
 cast-used : tie.Need-cast-used Inv-loop μ-loop
 cast-used c = let h = c .before .shared-slice-known .given (c .before .before .before .loop .i) in search needs
 
+-- src/lib.rt:36:24
 mul-used-2 : tie.Need-mul-used-2 Inv-loop μ-loop
 mul-used-2 c = let h = c .before .shared-slice-known .given (c .before .before .before .loop .i) in search needs
 
-add-used : tie.Need-add-used Inv-loop μ-loop
-add-used c = search needs
-
+-- src/lib.rt:36:24
 div-used : tie.Need-div-used Inv-loop μ-loop
 div-used c = search needs
 
+-- src/lib.rt:36:23
 cast-used-2 : tie.Need-cast-used-2 Inv-loop μ-loop
 cast-used-2 c = let h = c .before .shared-slice-known .given (c .before .before .before .loop .i) in
-    let q = quotient-le (c .before .before .before .before .args .drift) (getD (c .before .before .before .before .args .reading .now) (c .before .before .before .loop .i) 0) in
+    let q = quotient-le (c .before .before .before .before .args .divisor) (getD (c .before .before .before .before .args .reading .now) (c .before .before .before .loop .i) 0) (omega arith) in
     search needs
 
+-- src/lib.rt:36:13
 mul-used-3 : tie.Need-mul-used-3 Inv-loop μ-loop
 mul-used-3 c = search needs
 
+-- src/lib.rt:36:13
 slice-write-used-2 : tie.Need-slice-write-used-2 Inv-loop μ-loop
 slice-write-used-2 c = search needs
 
+-- src/lib.rt:37:13
 add-i-2 : tie.Need-add-i-2 Inv-loop μ-loop
 add-i-2 c = search needs
 
+-- src/lib.rt:30:5
 loop-less-2 : tie.Need-loop-less-2 Inv-loop μ-loop
 loop-less-2 c = search needs
 
+-- src/lib.rt:30:5
 loop-again-2 : tie.Need-loop-again-2 Inv-loop μ-loop
 loop-again-2 c = (
   search needs,
@@ -91,16 +105,18 @@ loop-again-2 c = (
   search needs,
   search needs,
   search needs,
-  stored _ (c .before .before .before .loop .i) _ (keptOr (c .before .before .before .before .args .drift) (c .before .before .before .before .args .reading .now)) _ (c .before .before .before .loop .used) (omega arith) (omega arith)
-      (kept-divides (c .before .before .before .before .args .drift) (c .before .before .before .before .args .reading .now) (c .before .before .before .loop .i) (omega arith) (c .if1 .left))
+  stored _ (c .before .before .before .loop .i) _ (keptOr (c .before .before .before .before .args .divisor - 10000) (c .before .before .before .before .args .reading .now)) _ (c .before .before .before .loop .used) (omega arith) (omega arith)
+      (kept-divides (c .before .before .before .before .args .divisor) (c .before .before .before .before .args .reading .now) (c .before .before .before .loop .i) (omega arith) (omega arith) (c .if1 .left))
       (c .before .before .before .loop .inv .6),
 )
 
+-- src/lib.rt:25:1
 same-length : tie.Need-same-length Inv-loop μ-loop
 same-length c = search needs
 
+-- src/lib.rt:25:1
 returns : tie.Need-returns Inv-loop μ-loop
-returns c = subst (λ (m : ℕ). Continued (c .before .before .args .start) m (keptOr (c .before .before .args .drift) (c .before .before .args .reading .now)) (c .before .before .args .used .now) (c .before .loop .used))
+returns c = subst (λ (m : ℕ). Continued (c .before .before .args .start) m (keptOr (c .before .before .args .divisor - 10000) (c .before .before .args .reading .now)) (c .before .before .args .used .now) (c .before .loop .used))
     (let w : c .before .loop .i ≡ c .before .before .args .end = omega arith in w) (c .before .loop .inv .6)
 
 pub stretch-spec : {M : Type 1} → statement M
@@ -119,7 +135,6 @@ stretch-spec =
     loop-again
     cast-used
     mul-used-2
-    add-used
     div-used
     cast-used-2
     mul-used-3
