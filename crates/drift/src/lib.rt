@@ -1,11 +1,11 @@
 // Drift correction of one instrument's row, in time that grows with the row and the checks.
-ghost use Prim.Native.Nat.{ℕ, _≤_, _-_, max};
+ghost use Prim.Native.Nat.{ℕ, _≤_, _<_, _-_, _*_, _/_, max};
 ghost use mathlib.Core.Path.{_≡_};
 ghost use lib.ListN.{length, getD};
 ghost use Rattle.rows.specs.Rows.{build, Continued};
 ghost use Rattle.drift.specs.Drift.{within, keptOr, correctedAt, Ordered};
 
-// A check that passes. Ruled out: 500 or -500 passes; only the drift's size below 499 passes.
+// Whether a check passes. Ruled out: 500 passes; -500 passes.
 pub fn passed(drift: i32) -> bool
     ensures { λ r. ⌜ r ≡ within drift ⌝ }
 {
@@ -21,6 +21,14 @@ fn greater(a: u64, b: u64) -> u64
     if a < b { b } else { a }
 }
 
+// "v × 10,000 / (10,000 + d), rounded down", the divisor being 10,000 + d.
+fn scaled(v: u64, divisor: u64) -> u64
+    requires { ⌜ (v < 65536) × (10000 ≤ divisor) ⌝ }
+    ensures { λ r. ⌜ r ≡ v * 10000 / divisor ⌝ }
+{
+    v * 10000 / divisor
+}
+
 // The readings from start up to end, with a drift of divisor - 10,000 taken out.
 fn stretch(reading: &[u16], start: usize, end: usize, divisor: u64, used: &mut [u16])
     requires { ⌜ (start ≤ end) × (end ≤ length (now reading)) × (length (now used) ≡ length (now reading)) × (10000 ≤ divisor) ⌝ }
@@ -33,7 +41,7 @@ fn stretch(reading: &[u16], start: usize, end: usize, divisor: u64, used: &mut [
             used[i] = v;
             i += 1;
         } else {
-            used[i] = ((v as u64) * 10000 / divisor) as u16;
+            used[i] = scaled(v as u64, divisor) as u16;
             i += 1;
         }
     }

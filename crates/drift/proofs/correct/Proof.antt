@@ -17,35 +17,27 @@ Inv-loop reading count places drifts used₀ n k start₀ divisor₀ j₀ used s
 abbrev μ-loop : tie.MeasureT-loop
 μ-loop reading count places drifts used₀ n k start₀ divisor₀ j₀ used start divisor j = count - j
 
--- src/lib.rt:57:5
 loop-holds : tie.Need-loop-holds Inv-loop μ-loop
 loop-holds c = walked-none _ _ _ (c .before .before .before .pre .0) (c .before .before .before .pre .1)
 
--- src/lib.rt:58:21
 mul-drift : tie.Need-mul-drift Inv-loop μ-loop
 mul-drift c = search needs
 
--- src/lib.rt:58:21
 shared-slice-copy-out-drift : tie.Need-shared-slice-copy-out-drift Inv-loop μ-loop
 shared-slice-copy-out-drift c = search needs
 
--- src/lib.rt:59:12
 passed-requires : tie.Need-passed-requires Inv-loop μ-loop
 passed-requires c κs = search needs
 
--- src/lib.rt:60:23
 mul-end : tie.Need-mul-end Inv-loop μ-loop
 mul-end c = search needs
 
--- src/lib.rt:60:23
 shared-slice-read-end : tie.Need-shared-slice-read-end Inv-loop μ-loop
 shared-slice-read-end c = search needs
 
--- src/lib.rt:60:23
 cast-end : tie.Need-cast-end Inv-loop μ-loop
 cast-end c = let h = c .shared-slice-known3 .given (c .before .before .before .before .before .loop .j) in search needs
 
--- src/lib.rt:61:13
 stretch-requires : tie.Need-stretch-requires Inv-loop μ-loop
 stretch-requires c κs = (
   c .before .before .before .before .before .before .loop .inv .ahead (c .before .before .before .before .before .before .loop .j) (le-refl _) (c .before .before .before .before .before .loop-test .taken),
@@ -54,51 +46,40 @@ stretch-requires c κs = (
   omega (arith, c .before .before .before .before .before .before .loop .inv .greatest),
 )
 
--- src/lib.rt:64:13
 add-j : tie.Need-add-j Inv-loop μ-loop
 add-j c = search needs
 
--- src/lib.rt:57:5
 loop-less : tie.Need-loop-less Inv-loop μ-loop
 loop-less c = search needs
 
--- src/lib.rt:57:5
 loop-again : tie.Need-loop-again Inv-loop μ-loop
 loop-again c = walked-passed _ _ _ _ _ (c .before .before .before .before .before .before .before .before .before .loop .j) _ _ (c .before .before .before .before .before .before .before .before .before .loop .inv) (c .before .before .before .before .before .before .before .before .loop-test .taken)
     (read-passes (getD (c .before .before .before .before .before .before .before .before .before .before .before .before .before .args .drifts .now) (c .before .before .before .before .before .before .before .before .before .loop .j) (pos 0)) (c .before .before .before .before .before .before .before .drift .given) _ _ (c .before .before .before .before .before .before .passed .ensures) (c .before .before .before .before .before .if1 .taken))
     (c .before .before .stretch .ensures)
 
--- src/lib.rt:66:40
 raise-requires : tie.Need-raise-requires Inv-loop μ-loop
 raise-requires c κs = search needs
 
--- src/lib.rt:66:13
 greater-requires : tie.Need-greater-requires Inv-loop μ-loop
 greater-requires c κs = search needs
 
--- src/lib.rt:67:13
 add-j-2 : tie.Need-add-j-2 Inv-loop μ-loop
 add-j-2 c = search needs
 
--- src/lib.rt:57:5
 loop-less-2 : tie.Need-loop-less-2 Inv-loop μ-loop
 loop-less-2 c = search needs
 
--- src/lib.rt:57:5
 loop-again-2 : tie.Need-loop-again-2 Inv-loop μ-loop
 loop-again-2 c = walked-failed _ _ _ _ (c .before .before .before .before .before .before .loop .j) _ _ (c .before .before .before .before .before .before .loop .inv) _ (c .before .before .before .before .before .loop-test .taken)
     (read-passes (getD (c .before .before .before .before .before .before .before .before .before .before .args .drifts .now) (c .before .before .before .before .before .before .loop .j) (pos 0)) (c .before .before .before .before .drift .given) _ _ (c .before .before .before .passed .ensures) (c .before .before .if1 .left))
     (read-greater (getD (c .before .before .before .before .before .before .before .before .before .before .args .drifts .now) (c .before .before .before .before .before .before .loop .j) (pos 0)) (c .before .before .before .before .drift .given) (c .before .before .before .before .before .before .loop .divisor) _ _ (c .before .raise .ensures) (c .greater .ensures))
 
--- src/lib.rt:70:5
 stretch-requires-2 : tie.Need-stretch-requires-2 Inv-loop μ-loop
 stretch-requires-2 c κs = (c .before .before .loop .inv .inside, le-refl _, c .before .before .loop .inv .same-length, omega (arith, c .before .before .loop .inv .greatest))
 
--- src/lib.rt:44:1
 same-length : tie.Need-same-length Inv-loop μ-loop
 same-length c = search needs
 
--- src/lib.rt:44:1
 returns : tie.Need-returns Inv-loop μ-loop
 returns c = walked-all _ _ _ _ _ (c .before .before .before .before .before .loop .j) _ _ (c .before .before .before .before .before .loop .inv) (c .before .before .before .before .loop-test .left) (c .before .before .stretch2 .ensures)
 
