@@ -4,6 +4,7 @@
 use Prim.Native.Nat.{ℕ, zero, suc, _≤_, _<_}
 use mathlib.Core.Path.{_≡_, refl, sym, ap, ap₂, _∙_, subst}
 use mathlib.Core.Bool.{Bool, true, false, not}
+use mathlib.Core.List.{List}
 use mathlib.Core.Logic.{_⊎_, inl, inr, ⊎-elim}
 use native.Mathlib.Nat.{lt-of-not-le, le-of-suc-le-suc, le-refl, le-antisymm, eq-or-lt-of-le, not-suc-le-zero}
 use native.Mathlib.Decide.{decLe}
@@ -14,7 +15,7 @@ use borrow.Author.Tests.{ltb-true, leb-true, lt-ltb, le-ltb, le-leb, lt-leb}
 use Rattle.rows.specs.Rows.{pick, both, either}
 use Rattle.rows.proofs.Laws.{every-all, every-fails}
 use Rattle.protocol.specs.Ranges.{raised}
-use Rattle.drift.specs.Drift.{Instrument, positionOf, driftOf, passes, FailedIn, Greatest, parts, together, excess, excessIn, maxTo, stretchDrift, Ordered, PassedAt, Stretch}
+use Rattle.drift.specs.Drift.{Instrument, positionOf, driftOf, passes, FailedIn, Greatest, parts, together, excess, excessIn, maxTo, stretchDrift, keptOr, correctedAt, Ordered, PassedAt, Stretch}
 use Rattle.drift.proofs.Laws.{maxTo-ext, maxTo-most, maxTo-met, excess-passed, pick-zero}
 
 -- ---- what a passed check parts
@@ -149,6 +150,13 @@ module _ (c : Instrument) (s t : ℕ) where
 -- what is taken out of an interval is the greatest drift of its stretch
 pub drift-greatest : (c : Instrument) (n s t i : ℕ) → Ordered c n → Stretch c n s t → s ≤ i → i < t → Greatest c s t (stretchDrift c i)
 drift-greatest c n s t i o x low high = subst (Greatest c s t) (sym (stretch-drift c n s t i o x low high)) (greatest-in c s t)
+
+-- so a corrected reading is what document 01 says of the interval's stretch and of that stretch's greatest drift d
+pub corrected-in : (c : Instrument) (reading : List ℕ) (n s t i d : ℕ) → Ordered c n → Stretch c n s t → s ≤ i → i < t → Greatest c s t d
+    → correctedAt c reading i ≡ keptOr d reading i
+unfolding correctedAt
+corrected-in c reading n s t i d o x low high g =
+    ap (λ (e : ℕ). keptOr e reading i) (greatest-unique c s t (stretchDrift c i) d (drift-greatest c n s t i o x low high) g)
 
 -- ---- each interval lies in a stretch, and in one only
 
