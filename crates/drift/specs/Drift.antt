@@ -4,6 +4,7 @@ use Prim.Native.Nat.{ℕ, zero, suc, _+_, _*_, _/_, _≤_, _<_, max}
 use mathlib.Core.Path.{_≡_, refl}
 use mathlib.Core.Bool.{Bool, true, false, not}
 use mathlib.Core.List.{List, [], _∷_}
+use mathlib.Core.Logic.{_⊎_}
 use lib.Dec.{ltb, leb}
 use lib.IntN.{ℤ, pos, negsuc}
 use lib.ListN.{length, getD}
@@ -72,6 +73,39 @@ pub record Ordered (c : Instrument) (n : ℕ) : Type 0 where
   pub drifts-kept : length (c .drifts) ≡ 32
   pub inside : (j : ℕ) → j < c .count → positionOf c j ≤ n
   pub rising : (j k : ℕ) → j < k → k < c .count → positionOf c j < positionOf c k
+
+-- a passed check stands at p
+pub record PassedAt (c : Instrument) (p : ℕ) : Type 0 where
+  pub check : ℕ
+  pub counted : check < c .count
+  pub passed : passes c check ≡ true
+  pub here : positionOf c check ≡ p
+
+-- "Passed checks and the record's ends cut the record into stretches": one of them, from s up to, and without, t.
+-- `together` is proved to mean the same (proofs/Stretches.antt).
+pub record Stretch (c : Instrument) (n s t : ℕ) : Type 0 where
+  pub opens : (s ≡ 0) ⊎ PassedAt c s
+  pub closes : (t ≡ n) ⊎ PassedAt c t
+  pub uncut : (m : ℕ) → m < c .count → passes c m ≡ true → s < positionOf c m → positionOf c m < t → ⊥
+
+-- a failed check of the stretch from s to t has the drift d; its checks stand from s to t, the record's ends included
+pub record FailedIn (c : Instrument) (s t d : ℕ) : Type 0 where
+  pub check : ℕ
+  pub counted : check < c .count
+  pub failed : passes c check ≡ false
+  pub after : s ≤ positionOf c check
+  pub before : positionOf c check ≤ t
+  pub has : driftOf c check ≡ pos d
+
+-- "In a stretch with failed checks, d is their greatest drift", or 0 where that is not above 0.
+-- `stretchDrift` is proved to be the one such d (proofs/Stretches.antt).
+pub record Greatest (c : Instrument) (s t d : ℕ) : Type 0 where
+  pub most : (j : ℕ) → j < c .count → passes c j ≡ false → s ≤ positionOf c j → positionOf c j ≤ t → raised 0 (driftOf c j) ≤ d
+  pub met : 0 < d → FailedIn c s t d
+
+-- by how much a check of the stretch from s to t reads high
+abbrev pub excessIn : Instrument → ℕ → ℕ → ℕ → ℕ
+excessIn c s t j = pick (both (leb s (positionOf c j)) (leb (positionOf c j) t)) (excess c j) 0
 
 -- one check at interval 2 with this drift, and the value 1,000 at interval 0
 one-check : ℤ → ℕ

@@ -1,11 +1,11 @@
 // Drift correction of one instrument's row, in time that grows with the row and the checks.
-ghost use Prim.Native.Nat.{ℕ, _≤_, _<_};
+ghost use Prim.Native.Nat.{ℕ, _≤_, _<_, _-_, _*_, _/_, max};
 ghost use mathlib.Core.Path.{_≡_};
 ghost use lib.ListN.{length, getD};
 ghost use Rattle.rows.specs.Rows.{build, Continued};
 ghost use Rattle.drift.specs.Drift.{within, keptOr, correctedAt, Ordered};
 
-// A check that passes. Ruled out: 500 or -500 passes; only the drift's size below 499 passes.
+// Whether a check passes. Ruled out: 500 passes; -500 passes.
 pub fn passed(drift: i32) -> bool
     ensures { λ r. ⌜ r ≡ within drift ⌝ }
 {
@@ -15,10 +15,24 @@ pub fn passed(drift: i32) -> bool
     !(499 < drift)
 }
 
-// The readings from start up to end, with a drift taken out.
-fn stretch(reading: &[u16], start: usize, end: usize, drift: u64, used: &mut [u16])
-    requires { ⌜ (start ≤ end) × (end ≤ length (now reading)) × (length (now used) ≡ length (now reading)) × (drift < 4294967296) ⌝ }
-    ensures { λ r. ⌜ Continued start end (keptOr drift (now (reading .entry))) (now (used .entry)) (now (used .exit)) ⌝ }
+fn greater(a: u64, b: u64) -> u64
+    ensures { λ r. ⌜ r ≡ max a b ⌝ }
+{
+    if a < b { b } else { a }
+}
+
+// "v × 10,000 / (10,000 + d), rounded down", the divisor being 10,000 + d.
+fn scaled(v: u64, divisor: u64) -> u64
+    requires { ⌜ (v < 65536) × (10000 ≤ divisor) ⌝ }
+    ensures { λ r. ⌜ r ≡ v * 10000 / divisor ⌝ }
+{
+    v * 10000 / divisor
+}
+
+// The readings from start up to end, with a drift of divisor - 10,000 taken out.
+fn stretch(reading: &[u16], start: usize, end: usize, divisor: u64, used: &mut [u16])
+    requires { ⌜ (start ≤ end) × (end ≤ length (now reading)) × (length (now used) ≡ length (now reading)) × (10000 ≤ divisor) ⌝ }
+    ensures { λ r. ⌜ Continued start end (keptOr (divisor - 10000) (now (reading .entry))) (now (used .entry)) (now (used .exit)) ⌝ }
 {
     let mut i = start;
     while i < end {
@@ -27,7 +41,7 @@ fn stretch(reading: &[u16], start: usize, end: usize, drift: u64, used: &mut [u1
             used[i] = v;
             i += 1;
         } else {
-            used[i] = ((v as u64) * 10000 / (10000 + drift)) as u16;
+            used[i] = scaled(v as u64, divisor) as u16;
             i += 1;
         }
     }
@@ -43,23 +57,23 @@ pub fn correct(reading: &[u16], count: u32, places: &[u32], drifts: &[i32], used
         (correctedAt (record { count = count; places = now (places .entry); drifts = now (drifts .entry) }) (now (reading .entry))) ⌝ }
 {
     let n = reading.len();
+    let k = count as usize;
     let mut start = 0;
-    let mut most = 0;
+    // 10,000 and the greatest drift of the open stretch: never below 10,000, so that nothing is corrected upward.
+    let mut divisor = 10000;
     let mut j = 0;
-    while j < count {
-        let drift = drifts[j as usize];
+    while j < k {
+        let drift = drifts[j];
         if passed(drift) {
-            let end = places[j as usize] as usize;
-            stretch(reading, start, end, most, used);
+            let end = places[j] as usize;
+            stretch(reading, start, end, divisor, used);
             start = end;
-            most = 0;
+            divisor = 10000;
+            j += 1;
         } else {
-            let high = protocol::raise(drift, 0);
-            if most < high {
-                most = high;
-            }
+            divisor = greater(divisor, protocol::raise(drift, 10000));
+            j += 1;
         }
-        j += 1;
     }
-    stretch(reading, start, n, most, used);
+    stretch(reading, start, n, divisor, used);
 }
