@@ -1,8 +1,8 @@
 -- Litres that were rounded down, beside the exact ones: q whole litres of n counted intervals, each of which loses at most
 -- 1 + 1/u litre. In document 01 u is 1: less than a litre of volume, then less than a litre of methane.
 -- Assumes nothing.
-use Prim.Native.Nat.{ℕ, zero, suc, _+_, _-_, _*_, _/_, _≤_, _<_}
-use mathlib.Core.Path.{_≡_, refl, sym, ap, _∙_, subst}
+use Prim.Native.Nat.{ℕ, zero, suc, _+_, _*_, _/_, _≤_, _<_}
+use mathlib.Core.Path.{_≡_, refl, ap, _∙_}
 use mathlib.Core.Bool.{Bool, true, false}
 use native.Mathlib.Nat.{mul-le-mul-left, mul-le-mul-right, mul-pos, mul-div-le, lt-mul-div-succ, le-of-mul-le-mul-left, le-step, lt-suc-self}
 use native.Mathlib.Omega.{arith}

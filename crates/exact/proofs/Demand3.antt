@@ -1,19 +1,19 @@
 -- Demand 3: the reported tonnes are never above the exact reduction, and short of it by less than a tonne and the
 -- promised grams. First over an interval's loss, the factor of unburnt methane and the grams, then with document 01's.
 -- Assumes nothing.
-use Prim.Native.Nat.{ℕ, zero, suc, _+_, _-_, _*_, _/_, _≤_, _<_}
-use mathlib.Core.Path.{_≡_, refl, sym, ap, ap₂, _∙_, subst}
-use mathlib.Core.Bool.{Bool, true, false}
+use Prim.Native.Nat.{ℕ, _+_, _*_, _/_, _≤_, _<_}
+use mathlib.Core.Path.{_≡_, refl, ap₂, _∙_, subst}
 use native.Mathlib.Nat.{mul-pos, mul-comm, one-mul}
 use native.Mathlib.Omega.{arith}
 use lib.IntN.{ℤ, pos}
-use Rattle.rows.specs.Rows.{sumTo, pick}
+use Rattle.rows.specs.Rows.{sumTo}
 use Rattle.rows.proofs.Sums.{sumTo-add, sumTo-mul, sumTo-const}
 use Rattle.protocol.specs.Numbers.{protocol, methaneMg}
 use Rattle.protocol.specs.Ranges.{kelvinOf, contentMost}
 use Rattle.volume.specs.Volume.{litresOf, methaneOf, methaneLitres}
 use Rattle.balance.specs.Balance.{destroyedOf, uncombustedOf, baselineMg, carbonDioxideMg, uncombustedMg, fuelMg, baselineAll, carbonDioxideAll, uncombustedAll, reductionOf, reductionAll, tonnesOf}
-use Rattle.balance.proofs.Integers.{Is, is-sub}
+use Rattle.balance.proofs.Integers.{is-sub}
+use Rattle.balance.proofs.Laws.{reduction-ext}
 use Rattle.exact.specs.Fraction.{Fraction, over, whole, _-ᶠ_, _*ᶠ_, sumᶠ}
 use Rattle.exact.specs.Exact.{Used, Sound, Fair, exactLitres, exactMethane, exactQ, exactDeviceMg, exactReduction, reportedQ, reportedTonnes, countedOf, countedAll, intervalMg, deviceMg, promised}
 use Rattle.exact.proofs.Near.{Near, near-all, near-minus, near-fair}
@@ -92,3 +92,13 @@ pub demand-3 : (u : Used) → Sound u → Fair (exactReduction u) (reportedTonne
 unfolding exactReduction reportedTonnes promised countedAll reductionAll baselineAll carbonDioxideAll uncombustedAll baselineMg uncombustedMg
 demand-3 u s =
     fair covers (u .devices) (u .kind) (exactQ u) (reportedQ u) (countedOf u) (fuelMg (u .fuels) (u .quantity) (u .factor)) (q-close u s)
+
+-- for a caller whose litres equal the reported ones device by device
+pub demand-3-of : (u : Used) → Sound u → (kind q : ℕ → ℕ) → ((d : ℕ) → d < u .devices → u .kind d ≡ kind d)
+    → ((d : ℕ) → d < u .devices → reportedQ u d ≡ q d)
+    → Fair (exactReduction u) (tonnesOf (reductionAll (u .devices) kind q (fuelMg (u .fuels) (u .quantity) (u .factor)))) (promised u)
+unfolding reportedTonnes
+demand-3-of u s kind q h l =
+    subst (λ (z : ℤ). Fair (exactReduction u) (tonnesOf z) (promised u))
+    (reduction-ext (u .devices) (u .kind) kind (reportedQ u) q (fuelMg (u .fuels) (u .quantity) (u .factor)) h l)
+    (demand-3 u s)

@@ -1,18 +1,17 @@
 -- One device: its exact reduction is a multiple of its exact Q, so that what destroyed, CO2 and uncombusted lose is
 -- bounded together and not apart. Over an interval's loss, the factor of unburnt methane and the grams as parameters.
 -- Assumes nothing.
-use Prim.Native.Nat.{ℕ, zero, suc, _+_, _-_, _*_, _/_, _≤_, _<_}
-use mathlib.Core.Path.{_≡_, refl, sym, ap, _∙_, subst}
-use native.Mathlib.Nat.{mul-le-mul-left, mul-le-mul-right, mul-le-mul, mul-pos, le-of-mul-le-mul-left, le-refl, le-trans, add-le-add, mul-add}
+use Prim.Native.Nat.{ℕ, _+_, _-_, _*_, _/_, _≤_, _<_}
+use mathlib.Core.Path.{_≡_, sym, ap, subst}
+use native.Mathlib.Nat.{mul-le-mul-left, mul-pos, le-of-mul-le-mul-left, le-refl, le-trans, add-le-add, mul-add}
 use native.Mathlib.Omega.{arith}
-use lib.IntN.{ℤ, pos, _-ℤ_, _*ℤ_}
 use Rattle.protocol.specs.Kinds.{thousandthsOf}
 use Rattle.protocol.specs.Numbers.{carbonMg}
 use Rattle.protocol.proofs.KindLaws.{thousandths-most}
 use Rattle.balance.specs.Balance.{destroyedOf, uncombustedOf, carbonDioxideMg}
 use Rattle.balance.proofs.Laws.{partition}
-use Rattle.balance.proofs.Integers.{Is, is-pos, is-minus, is-times}
-use Rattle.exact.specs.Fraction.{Fraction, over, whole, _-ᶠ_, _*ᶠ_}
+use Rattle.balance.proofs.Integers.{is-pos, is-minus, is-times}
+use Rattle.exact.specs.Fraction.{Fraction, over, whole}
 use Rattle.exact.specs.Exact.{exactDestroyed, exactUncombusted, exactUnburntMg, exactCarbonMg, exactDeviceMg}
 use Rattle.exact.proofs.Near.{Near, near-is}
 use Rattle.exact.proofs.Close.{Close}

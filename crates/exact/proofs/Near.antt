@@ -2,15 +2,14 @@
 -- of such fractions, and the tonnes that follow from one.
 -- Assumes nothing.
 use Prim.Native.Nat.{ℕ, zero, suc, _+_, _-_, _*_, _≤_, _<_}
-use mathlib.Core.Path.{_≡_, refl, sym, ap, _∙_, subst}
-use native.Mathlib.Nat.{mul-le-mul-right, mul-pos, le-step, lt-suc-self, mul-one}
+use native.Mathlib.Nat.{mul-le-mul-right, mul-pos, le-step, lt-suc-self}
 use native.Mathlib.Omega.{arith}
-use lib.IntN.{ℤ, pos, negsuc, _+ℤ_, _-ℤ_, _*ℤ_}
+use lib.IntN.{ℤ, pos, _+ℤ_, _*ℤ_}
 use Rattle.rows.specs.Rows.{sumTo}
 use Rattle.balance.specs.Balance.{tonne, tonnesOf}
 use Rattle.balance.proofs.Integers.{Is, Floor, above, below, is-self, is-pos, is-add, is-minus, is-times, is-le, is-lt}
 use Rattle.balance.proofs.Laws.{tonnes-floor}
-use Rattle.exact.specs.Fraction.{Fraction, Proper, over, whole, _+ᶠ_, _-ᶠ_, _*ᶠ_, sumᶠ, _≤ᶠ_, _‹ᶠ_}
+use Rattle.exact.specs.Fraction.{Fraction, whole, _+ᶠ_, _-ᶠ_, sumᶠ}
 use Rattle.exact.specs.Exact.{Fair}
 
 pub record Near (x : Fraction) (a b e : ℕ) : Type 0 where

@@ -1,17 +1,17 @@
 -- The exact reduction: equations 1 to 3 over the values used, "with no rounding anywhere", beside what is reported of
 -- the same values, and the distance that may lie between the two.
 -- Assumes nothing.
-use Prim.Native.Nat.{ℕ, zero, suc, _+_, _-_, _*_, _≤_, _<_}
+use Prim.Native.Nat.{ℕ, zero, _+_, _-_, _*_, _≤_, _<_}
 use mathlib.Core.Path.{_≡_, refl}
-use mathlib.Core.Bool.{Bool, true, false}
-use lib.IntN.{ℤ, pos, negsuc, _+ℤ_, _*ℤ_}
+use mathlib.Core.Bool.{Bool, true}
+use lib.IntN.{ℤ, pos, _+ℤ_, _*ℤ_}
 use Rattle.rows.specs.Rows.{sumTo, pick}
 use Rattle.protocol.specs.Numbers.{protocol, methaneMg, carbonMg}
 use Rattle.protocol.specs.Kinds.{thousandthsOf}
 use Rattle.protocol.specs.Ranges.{kelvinOf, contentMost}
 use Rattle.volume.specs.Volume.{litresOf, methaneOf, methaneLitres}
 use Rattle.balance.specs.Balance.{fuelMg, reductionOf, reductionAll, baselineAll, carbonDioxideAll, uncombustedAll, baselineMg, carbonDioxideMg, uncombustedMg, destroyedOf, uncombustedOf, tonnesOf, tonne}
-use Rattle.exact.specs.Fraction.{Fraction, Proper, over, whole, _+ᶠ_, _-ᶠ_, _*ᶠ_, sumᶠ, _≤ᶠ_, _‹ᶠ_}
+use Rattle.exact.specs.Fraction.{Fraction, Proper, over, whole, _-ᶠ_, _*ᶠ_, sumᶠ, _≤ᶠ_, _‹ᶠ_}
 
 -- The values used: of device d in interval k, whether the interval is counted, flow, CH4 content, temperature and
 -- pressure, in the units of document 01; each device's kind; the fuel lines.
