@@ -1,15 +1,14 @@
 -- Signed numbers carried over to naturals, where `omega` reads them: z is p - m, for two naturals p and m.
 -- Assumes nothing.
-use Prim.Native.Nat.{ℕ, zero, suc, _+_, _-_, _*_, _/_, _≤_, _<_}
-use mathlib.Core.Path.{_≡_, refl, sym, ap, _∙_, subst}
-use mathlib.Core.Bool.{Bool, true, false, cond}
-use mathlib.Core.Logic.{_⊎_, ⊎-elim}
-use native.Mathlib.Nat.{le-of-lt, lt-of-not-le, mul-div-le, lt-mul-div-succ}
+use Prim.Native.Nat.{ℕ, zero, suc, _+_, _-_, _*_, _≤_, _<_}
+use mathlib.Core.Path.{_≡_, refl, sym, ap, subst}
+use mathlib.Core.Bool.{Bool, cond}
+use native.Mathlib.Nat.{lt-of-not-le, mul-div-le, lt-mul-div-succ}
 use native.Mathlib.Decide.{decLe}
 use native.Mathlib.Omega.{arith}
-use lib.Dec.{T, leb, ltb, leb→le, le→leb, ltb→lt, lt→ltb}
+use lib.Dec.{leb, ltb, leb→le, le→leb, lt→ltb}
 use lib.IntN.{ℤ, pos, negsuc, negℤ, subℕ, _+ℤ_, _-ℤ_, _*ℤ_}
-use lib.Signed.{_≤ℤ_, _<ℤ_, leZ, ltZ, shrZ, mag}
+use lib.Signed.{_≤ℤ_, _<ℤ_, shrZ, mag}
 use borrow.Author.Tests.{lt-ltb, le-ltb}
 
 -- z is what it has above 0 less what it has below 0

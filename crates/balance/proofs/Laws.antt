@@ -2,11 +2,11 @@
 -- Assumes nothing.
 use Prim.Native.Nat.{ℕ, zero, suc, _+_, _-_, _*_, _/_, _≤_, _<_, _^_}
 use mathlib.Core.Path.{_≡_, refl, sym, ap, ap₂, _∙_, subst}
-use mathlib.Core.Bool.{Bool, true, false}
+use mathlib.Core.Bool.{true, false}
 use native.Mathlib.Nat.{mul-le-mul-left, mul-le-mul, mul-le-mul-right, le-refl, le-trans, zero-add, add-zero, div-le-self}
 use native.Mathlib.Omega.{arith}
-use lib.IntN.{ℤ, pos, negsuc, negℤ, subℕ, _-ℤ_, _*ℤ_, natAbs}
-use lib.Signed.{_≤ℤ_, shrZ, ltZ, mag, nonNeg}
+use lib.IntN.{ℤ, pos, negsuc, _-ℤ_, _*ℤ_, natAbs}
+use lib.Signed.{_≤ℤ_, shrZ, ltZ, nonNeg}
 use lib.Dec.{T}
 use borrow.Author.Tests.{ltb-true}
 use mir.Syntax.{w64}
@@ -17,8 +17,7 @@ use Rattle.rows.proofs.Sums.{sumTo-ext, sumTo-add, sumTo-bound}
 use Rattle.protocol.specs.Kinds.{thousandthsOf}
 use Rattle.protocol.specs.Numbers.{methaneMg}
 use Rattle.protocol.proofs.KindLaws.{thousandths-most}
-use Rattle.protocol.proofs.SignedLaws.{positive}
-use Rattle.balance.specs.Balance.{ceilDiv, destroyedOf, uncombustedOf, baselineMg, carbonDioxideMg, uncombustedMg, overDevices, baselineAll, carbonDioxideAll, uncombustedAll, reductionOf, tonnesOf, IsTonnes, creditsOf, tonne, deviceMost, Moderate}
+use Rattle.balance.specs.Balance.{ceilDiv, destroyedOf, uncombustedOf, baselineMg, carbonDioxideMg, uncombustedMg, overDevices, baselineAll, carbonDioxideAll, uncombustedAll, reductionOf, reductionAll, tonnesOf, IsTonnes, creditsOf, tonne, deviceMost, Moderate}
 use Rattle.balance.proofs.Integers.{Is, Floor, above, below, is-self, is-pos, is-mag, is-minus, is-times, is-le, le-is, is-same, is-floor, sub-le, sub-lt, by-order}
 
 -- ---- litres
@@ -107,6 +106,24 @@ moderate devices kind q fuel h l f =
     let b = carbon-most devices kind q h l in
     let c = uncombusted-most devices kind q h l in
     record { credit-most = omega arith; debit-most = omega arith }
+
+-- devices of equal kinds and litres have equal sums
+pub over-ext : (f : ℕ → ℕ → ℕ) (devices : ℕ) (kind kind' q q' : ℕ → ℕ)
+    → ((d : ℕ) → d < devices → kind d ≡ kind' d) → ((d : ℕ) → d < devices → q d ≡ q' d)
+    → overDevices f devices kind q ≡ overDevices f devices kind' q'
+over-ext f devices kind kind' q q' h l =
+    sumTo-ext devices (λ d. f (kind d) (q d)) (λ d. f (kind' d) (q' d)) (λ d m. ap₂ f (h d m) (l d m))
+
+pub reduction-ext : (devices : ℕ) (kind kind' q q' : ℕ → ℕ) (fuel : ℕ)
+    → ((d : ℕ) → d < devices → kind d ≡ kind' d) → ((d : ℕ) → d < devices → q d ≡ q' d)
+    → reductionAll devices kind q fuel ≡ reductionAll devices kind' q' fuel
+unfolding reductionAll baselineAll carbonDioxideAll uncombustedAll
+reduction-ext devices kind kind' q q' fuel h l =
+    ap₂ reductionOf
+    (over-ext (λ kind q. baselineMg q) devices kind kind' q q' h l)
+    (ap₂ (λ (c e : ℕ). c + e + fuel)
+    (over-ext (λ kind q. carbonDioxideMg (destroyedOf kind q)) devices kind kind' q q' h l)
+    (over-ext (λ kind q. uncombustedMg (uncombustedOf kind q)) devices kind kind' q q' h l))
 
 -- ---- signed
 

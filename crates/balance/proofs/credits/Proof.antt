@@ -7,21 +7,15 @@ use mir.Syntax.{w64}
 use mir.Val.{Fits}
 use mir.Facts.{toZ-ofZ}
 use Rattle.balance.proofs.Laws.{credits-below, credits-above, casts}
-use borrow.Author.Needs.{needs}
 use Rattle.balance.proofs.credits.Statement.{statement}
 use Rattle.balance.proofs.credits.Tie as tie
-use Rattle.balance.proofs.credits.Reads as reads
-use Rattle.balance.proofs.credits.Lts as lts
 
--- src/lib.rt:84:9
 returns : tie.Need-returns
 returns c = credits-below (c .before .args .t) (subst (λ (y : ℤ). ltZ y (pos 0) ≡ true) (toZ-ofZ (c .before .fits .t)) (c .if1 .taken))
 
--- src/lib.rt:86:5
 cast-result : tie.Need-cast-result
 cast-result c = subst (λ (y : ℤ). T (nonNeg y) × Fits w64 (natAbs y)) (sym (toZ-ofZ (c .before .fits .t))) (casts (c .before .args .t) (c .before .fits .t) (subst (λ (y : ℤ). ltZ y (pos 0) ≡ false) (toZ-ofZ (c .before .fits .t)) (c .if1 .left)))
 
--- src/lib.rt:80:1
 returns-2 : tie.Need-returns-2
 returns-2 c = ap natAbs (toZ-ofZ (c .before .fits .t)) ∙ credits-above (c .before .args .t) (subst (λ (y : ℤ). ltZ y (pos 0) ≡ false) (toZ-ofZ (c .before .fits .t)) (c .if1 .left))
 
