@@ -1,8 +1,8 @@
 -- A window's sums as a loop's invariant: what is added and what is left make the whole. Start, step and end.
 -- Assumes nothing.
-use Prim.Native.Nat.{ℕ, suc, _+_, _*_, _≤_, _<_}
+use Prim.Native.Nat.{ℕ, _+_, _*_, _≤_, _<_}
 use mathlib.Core.Path.{_≡_, sym, ap, ap₂, _∙_, subst}
-use mathlib.Core.List.{List, [], _∷_, _++_, map}
+use mathlib.Core.List.{List, [], _++_, map}
 use native.Mathlib.Nat.{mul-le-mul-right, le-antisymm}
 use native.Mathlib.Numerals.{add-one}
 use native.Mathlib.Omega.{arith}
@@ -23,8 +23,8 @@ pub record Adding (xs : List ℕ) (sum squares i : ℕ) : Type 0 where
   pub left : sum + total (drop i xs) ≡ total xs
   pub left-squares : squares + total (squared (drop i xs)) ≡ total (squared xs)
 
-pub adding-none : (xs : List ℕ) → length xs ≤ 288 → Low 30000 xs → Adding xs 0 0 0
-adding-none xs h l =
+pub adding-none : {xs : List ℕ} → length xs ≤ 288 → Low 30000 xs → Adding xs 0 0 0
+adding-none {xs} h l =
     record {
       few = h;
       low = l;
@@ -41,7 +41,7 @@ module _ (xs : List ℕ) (i : ℕ) (h : i < length xs) where
   off-squares : total (squared (drop i xs)) ≡ getD xs i 0 * getD xs i 0 + total (squared (drop (i + 1) xs))
   off-squares = rw (add-one, drop-cons xs i 0)
 
-module _ (xs : List ℕ) (sum squares i : ℕ) (a : Adding xs sum squares i) (h : i < length xs) where
+module _ {xs : List ℕ} {sum squares i : ℕ} (a : Adding xs sum squares i) (h : i < length xs) where
   pub adding-more : Adding xs (sum + getD xs i 0) (squares + getD xs i 0 * getD xs i 0) (i + 1)
   adding-more =
       record {
@@ -67,10 +67,10 @@ module _ (xs : List ℕ) (sum squares i : ℕ) (a : Adding xs sum squares i) (h 
       let y : total (squared xs) ≤ length xs * 900000000 = squares-most 30000 xs (a .low) in
       omega (arith, off-squares xs i h, a .left-squares)
 
-pub adding-all : (xs : List ℕ) (sum squares i : ℕ) → Adding xs sum squares i → length xs ≤ i
+pub adding-all : {xs : List ℕ} {sum squares i : ℕ} → Adding xs sum squares i → length xs ≤ i
     → record { n = i; sum = sum; squares = squares } ≡ tallyOf xs
 unfolding tallyOf
-adding-all xs sum squares i a h = λ j. record { n = end j; sum = all j; squares = all-squares j }
+adding-all {xs} {sum} {squares} {i} a h = λ j. record { n = end j; sum = all j; squares = all-squares j }
   where
     end : i ≡ length xs
     end = le-antisymm (a .within) h
@@ -89,8 +89,8 @@ adding-all xs sum squares i a h = λ j. record { n = end j; sum = all j; squares
 abbrev pub sums : Tally → Tally → Tally
 sums a b = record { n = a .n + b .n; sum = a .sum + b .sum; squares = a .squares + b .squares }
 
-pub sums-are : (a b : Tally) (xs ys : List ℕ) → a ≡ tallyOf xs → b ≡ tallyOf ys → sums a b ≡ tallyOf (xs ++ ys)
-sums-are a b xs ys p q = ap₂ sums p q ∙ sym (tally-append xs ys)
+pub sums-are : {a b : Tally} (xs ys : List ℕ) → a ≡ tallyOf xs → b ≡ tallyOf ys → sums a b ≡ tallyOf (xs ++ ys)
+sums-are xs ys p q = ap₂ sums p q ∙ sym (tally-append xs ys)
 
-pub sums-sized : (a b : Tally) (xs ys : List ℕ) → a ≡ tallyOf xs → b ≡ tallyOf ys → Windows xs ys → Sized (sums a b)
-sums-sized a b xs ys p q w = subst Sized (sym (sums-are a b xs ys p q)) (windows-sized xs ys w)
+pub sums-sized : {a b : Tally} {xs ys : List ℕ} → a ≡ tallyOf xs → b ≡ tallyOf ys → Windows xs ys → Sized (sums a b)
+sums-sized {xs = xs} {ys = ys} p q w = subst Sized (sym (sums-are xs ys p q)) (windows-sized xs ys w)

@@ -3,10 +3,10 @@
 use Prim.Native.Nat.{ℕ, _+_, _-_, _*_, _/_, _≤_, _<_}
 use mathlib.Core.Path.{_≡_}
 use mathlib.Core.Bool.{true, false}
-use native.Mathlib.Nat.{le-refl, le-trans, lt-irrefl, not-suc-le-zero, mul-div-le, lt-mul-div-succ}
+use native.Mathlib.Nat.{le-trans, not-suc-le-zero, mul-div-le, lt-mul-div-succ}
 use native.Mathlib.Omega.{arith}
 use Rattle.window.specs.declared.Tally.{Tally}
-use Rattle.window.specs.Window.{meanOf, Meets, IsLimit, meets, limitOf, Sized, z95}
+use Rattle.window.specs.Window.{meanOf, Meets, meets, limitOf, Sized, z95}
 use Rattle.window.proofs.Laws.{meets-true, meets-false, meets-below, above-mean, mean-most, limit-of}
 
 pub record Between (t : Tally) (z low high : ℕ) : Type 0 where
@@ -17,8 +17,8 @@ pub record Between (t : Tally) (z low high : ℕ) : Type 0 where
   pub met : 0 < low → Meets t z low
   pub missed : Meets t z high → ⊥
 
-pub between-start : (t : Tally) (z m : ℕ) → Sized t → z ≤ z95 → m ≡ meanOf t → Between t z 0 (m + 1)
-between-start t z m s h e =
+pub between-start : {t : Tally} {z m : ℕ} → Sized t → z ≤ z95 → m ≡ meanOf t → Between t z 0 (m + 1)
+between-start {t} {z} {m} s h e =
     record {
       sized = s;
       z-most = h;
@@ -29,15 +29,22 @@ between-start t z m s h e =
     }
 
 -- the middle lies between the two
-pub halved : (low high : ℕ) → low + 1 < high → (low < low + (high - low) / 2) × (low + (high - low) / 2 < high)
+halved : (low high : ℕ) → low + 1 < high → (low < low + (high - low) / 2) × (low + (high - low) / 2 < high)
 halved low high h =
     let a : 2 * ((high - low) / 2) ≤ high - low = mul-div-le (high - low) 2 in
     let b : high - low < 2 * ((high - low) / 2 + 1) = lt-mul-div-succ (high - low) (let z : 0 < 2 = omega arith in z) in
     (omega arith, omega arith)
 
-module _ (t : Tally) (z low high : ℕ) (b : Between t z low high) (h : low + 1 < high) where
+module _ {t : Tally} {z low high : ℕ} (b : Between t z low high) (h : low + 1 < high) where
   pub middle-most : low + (high - low) / 2 ≤ 30000
   middle-most = let w = halved low high h in omega (arith, w .1, b .most)
+
+  -- either half is shorter than the whole
+  pub shorter-up : high - (low + (high - low) / 2) < high - low
+  shorter-up = let w = halved low high h in omega (arith, w .0, w .1)
+
+  pub shorter-down : low + (high - low) / 2 - low < high - low
+  shorter-down = let w = halved low high h in omega (arith, w .0, w .1)
 
   pub between-up : meets t z (low + (high - low) / 2) ≡ true → Between t z (low + (high - low) / 2) high
   between-up e =
@@ -61,7 +68,7 @@ module _ (t : Tally) (z low high : ℕ) (b : Between t z low high) (h : low + 1 
         missed = meets-false t z (low + (high - low) / 2) e;
       }
 
-pub between-end : (t : Tally) (z low high : ℕ) → Between t z low high → high ≤ low + 1 → low ≡ limitOf t z
-between-end t z low high b h =
+pub between-end : {t : Tally} {z low high : ℕ} → Between t z low high → high ≤ low + 1 → low ≡ limitOf t z
+between-end {t} {z} {low} {high} b h =
     limit-of t z low (b .sized .some)
     (record { reached = b .met; greatest = λ M l m. b .missed (meets-below t z high M (omega arith) m) })

@@ -6,13 +6,12 @@ use mathlib.Core.Path.{_≡_, refl, sym, ap, ap₂, _∙_, subst}
 use mathlib.Core.Bool.{Bool, true, false}
 use mathlib.Core.Logic.{_⊎_, inl, inr, ⊎-elim}
 use mathlib.Core.List.{List, [], _∷_, _++_, map, map-append, map-id}
-use native.Mathlib.Nat.{le-refl, le-trans, le-step, not-suc-le-zero, not-le-of-lt, le-of-suc-le-suc, eq-or-lt-of-le, lt-of-le-of-lt, lt-of-not-le, le-antisymm, zero-mul, suc-mul, add-le-add, mul-le-mul, mul-le-mul-left, mul-le-mul-right, sub-le-sub-left, mul-div-le, lt-mul-div-succ, div-le-of-le-mul, add-sub-cancel-left, le-of-mul-le-mul-left}
+use native.Mathlib.Nat.{le-refl, le-trans, le-step, not-suc-le-zero, not-le-of-lt, le-of-suc-le-suc, eq-or-lt-of-le, lt-of-le-of-lt, lt-of-not-le, le-antisymm, suc-mul, add-le-add, mul-le-mul, mul-le-mul-left, sub-le-sub-left, lt-mul-div-succ, div-le-of-le-mul}
 use native.Mathlib.Decide.{decLe}
 use native.Mathlib.Omega.{arith}
 use lib.Dec.{leb}
-use lib.ListN.{length, getD, length-append, List·getD-append}
-use lib.Seq.{getD-append-add}
-use borrow.Author.Tests.{leb-true, leb-false, le-leb}
+use lib.ListN.{length, getD, length-append}
+use borrow.Author.Tests.{leb-true, le-leb, lt-leb}
 use Rattle.rows.specs.Rows.{both, total}
 use Rattle.rows.proofs.Laws.{both-true}
 use Rattle.window.specs.declared.Tally.{Tally}
@@ -119,10 +118,21 @@ meets-false t z L e m = clash (meets-met t z L m) e
     clash : {b : Bool} → b ≡ true → b ≡ false → ⊥
     clash p q = let z : _≡_ {A = ℕ} 0 1 = cc in omega arith
 
+-- the test, once it is known whether S is at least nL
+pub meets-short : (t : Tally) (z L : ℕ) → t .sum < t .n * L → false ≡ meets t z L
+unfolding meets
+meets-short t z L h =
+    sym (ap (λ (b : Bool). both b (leb (spreadOf t z) (allowedOf t z L))) (lt-leb (t .n * L) (t .sum) h))
+
+pub meets-enough : (t : Tally) (z L : ℕ) → t .n * L ≤ t .sum → leb (spreadOf t z) (allowedOf t z L) ≡ meets t z L
+unfolding meets
+meets-enough t z L h =
+    sym (ap (λ (b : Bool). both b (leb (spreadOf t z) (allowedOf t z L))) (le-leb (t .n * L) (t .sum) h))
+
 -- more is allowed below a number than at it
 spread-below : (t : Tally) (z L M : ℕ) → L ≤ M → allowedOf t z M ≤ allowedOf t z L
 spread-below t z L M h =
-    add-le-add (le-refl (z * (t .sum * t .sum))) (mul-le-mul-left 100 (mul-le-mul-left (t .n) (mul-le-mul nearer nearer)))
+    add-le-add (le-refl (z * (t .sum * t .sum))) (mul-le-mul-left 100 (mul-le-mul-left _ (mul-le-mul nearer nearer)))
   where
     nearer : t .sum - t .n * M ≤ t .sum - t .n * L
     nearer = sub-le-sub-left (mul-le-mul-left (t .n) h) (t .sum)

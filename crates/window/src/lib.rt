@@ -32,8 +32,8 @@ fn one(part: &[u16]) -> Tally
     }
 }
 
-// Count, sum and sum of squares of the window before and the window after. Ruled out: one window only; the squares of
-// the sums.
+// Count, sum and sum of squares of the window before and the window after. Ruled out: one window taken twice; the sums in
+// place of the sums of squares.
 pub fn tally_of(before: &[u16], after: &[u16]) -> Tally
     requires { ⌜ Windows (now before) (now after) ⌝ }
     ensures { λ r. ⌜ (r ≡ tallyOf (now (before .entry) ++ now (after .entry))) × Sized r ⌝ }

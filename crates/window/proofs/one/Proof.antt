@@ -5,8 +5,6 @@ use Rattle.window.proofs.Adding.{Adding, adding-none, adding-more, addi
 use borrow.Author.Needs.{needs}
 use Rattle.window.proofs.one.Statement.{statement}
 use Rattle.window.proofs.one.Tie as tie
-use Rattle.window.proofs.one.Reads as reads
-use Rattle.window.proofs.one.Lts as lts
 
 abbrev Inv-loop : tie.InvT-loop
 Inv-loop part sum₀ squares₀ i₀ sum squares i = Adding part sum squares i
@@ -14,49 +12,38 @@ Inv-loop part sum₀ squares₀ i₀ sum squares i = Adding part sum squares i
 abbrev μ-loop : tie.MeasureT-loop
 μ-loop part sum₀ squares₀ i₀ sum squares i = length part - i
 
--- src/lib.rt:22:5
 loop-holds : tie.Need-loop-holds Inv-loop μ-loop
-loop-holds c = adding-none (c .args .part .now) (c .pre .0) (c .pre .1)
+loop-holds c = adding-none (c .pre .0) (c .pre .1)
 
--- src/lib.rt:23:17
 mul-v : tie.Need-mul-v Inv-loop μ-loop
 mul-v c = search needs
 
--- src/lib.rt:23:17
 shared-slice-read-v : tie.Need-shared-slice-read-v Inv-loop μ-loop
 shared-slice-read-v c = search needs
 
--- src/lib.rt:23:17
 cast-v : tie.Need-cast-v Inv-loop μ-loop
-cast-v c = record { fits = omega (arith, value-fits (c .before .before .before .args .part .now) (c .before .before .loop .sum) (c .before .before .loop .squares) (c .before .before .loop .i) (c .before .before .loop .inv) (c .before .loop-test .taken)) }
+cast-v c = record { fits = omega (arith, value-fits (c .before .before .loop .inv) (c .before .loop-test .taken)) }
 
--- src/lib.rt:24:9
 add-sum : tie.Need-add-sum Inv-loop μ-loop
-add-sum c = record { fits = omega (arith, sum-fits (c .before .before .before .args .part .now) (c .before .before .loop .sum) (c .before .before .loop .squares) (c .before .before .loop .i) (c .before .before .loop .inv) (c .before .loop-test .taken)) }
+add-sum c = record { fits = omega (arith, sum-fits (c .before .before .loop .inv) (c .before .loop-test .taken)) }
 
--- src/lib.rt:25:20
 mul-squares : tie.Need-mul-squares Inv-loop μ-loop
-mul-squares c = record { fits = omega (arith, squares-fit (c .before .before .before .args .part .now) (c .before .before .loop .sum) (c .before .before .loop .squares) (c .before .before .loop .i) (c .before .before .loop .inv) (c .before .loop-test .taken)) }
+mul-squares c = record { fits = omega (arith, squares-fit (c .before .before .loop .inv) (c .before .loop-test .taken)) }
 
--- src/lib.rt:25:9
 add-squares : tie.Need-add-squares Inv-loop μ-loop
-add-squares c = record { fits = omega (arith, squares-fit (c .before .before .before .args .part .now) (c .before .before .loop .sum) (c .before .before .loop .squares) (c .before .before .loop .i) (c .before .before .loop .inv) (c .before .loop-test .taken)) }
+add-squares c = record { fits = omega (arith, squares-fit (c .before .before .loop .inv) (c .before .loop-test .taken)) }
 
--- src/lib.rt:26:9
 add-i : tie.Need-add-i Inv-loop μ-loop
 add-i c = search needs
 
--- src/lib.rt:22:5
 loop-less : tie.Need-loop-less Inv-loop μ-loop
 loop-less c = search needs
 
--- src/lib.rt:22:5
 loop-again : tie.Need-loop-again Inv-loop μ-loop
-loop-again c = adding-more (c .before .before .before .args .part .now) (c .before .before .loop .sum) (c .before .before .loop .squares) (c .before .before .loop .i) (c .before .before .loop .inv) (c .before .loop-test .taken)
+loop-again c = adding-more (c .before .before .loop .inv) (c .before .loop-test .taken)
 
--- src/lib.rt:15:1
 returns : tie.Need-returns Inv-loop μ-loop
-returns c = adding-all (c .before .before .args .part .now) (c .before .loop .sum) (c .before .loop .squares) (c .before .loop .i) (c .before .loop .inv) (c .loop-test .left)
+returns c = adding-all (c .before .loop .inv) (c .loop-test .left)
 
 pub one-spec : {M : Type 1} → statement M
 one-spec =

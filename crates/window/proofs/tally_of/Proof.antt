@@ -18,13 +18,11 @@ whole : (c : tie.After-one2)
     → sums (c .before .one .result) (c .one2 .result)
     ≡ tallyOf (c .before .before .before .before .args .before .now ++ c .before .before .before .before .args .after .now)
 whole c =
-    sums-are (c .before .one .result) (c .one2 .result) (c .before .before .before .before .args .before .now)
-    (c .before .before .before .before .args .after .now) (c .before .one .ensures) (c .one2 .ensures)
+    sums-are (c .before .before .before .before .args .before .now) (c .before .before .before .before .args .after .now)
+    (c .before .one .ensures) (c .one2 .ensures)
 
 sized : (c : tie.After-one2) → Sized (sums (c .before .one .result) (c .one2 .result))
-sized c =
-    sums-sized (c .before .one .result) (c .one2 .result) (c .before .before .before .before .args .before .now)
-    (c .before .before .before .before .args .after .now) (c .before .one .ensures) (c .one2 .ensures) (c .before .before .before .before .pre)
+sized c = sums-sized (c .before .one .ensures) (c .one2 .ensures) (c .before .before .before .before .pre)
 
 add-t5 : tie.Need-add-t5
 add-t5 c = let s = sized (c .before .before) in record { fits = omega arith }
