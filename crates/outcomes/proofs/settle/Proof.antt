@@ -1,3 +1,14 @@
+use mathlib.Core.Path.{_≡_, refl, sym, ap, _∙_, subst}
+use lib.IntN.{ℤ}
+use mir.Facts.{toZ-ofZ}
+use Rattle.rows.specs.Rows.{either}
+use Rattle.protocol.specs.Ranges.{tempMissing, pressMissing}
+use Prim.Native.Nat.{ℕ, _≤_, _<_}
+use native.Mathlib.Omega.{arith}
+use Rattle.volume.specs.Volume.{methaneLitres, Inside}
+use Rattle.protocol.specs.Ranges.{contentMost}
+use Rattle.outcomes.specs.Outcomes.{outcomeOf, heldOutcome}
+use Rattle.outcomes.proofs.Laws.{outcomeFor, counted-inside, counted-entry, excluded-entry}
 use borrow.Author.Needs.{needs}
 use Rattle.outcomes.proofs.settle.Statement.{statement}
 use Rattle.outcomes.proofs.settle.Tie as tie
@@ -7,6 +18,16 @@ use Rattle.outcomes.proofs.held_outcome.Reads as held-outcome-reads
 use Rattle.outcomes.proofs.lacks.Reads as lacks-reads
 use Rattle.outcomes.proofs.outcome.Reads as outcome-reads
 use Rattle.volume.proofs.methane_litres.Reads as methane-litres-reads
+
+-- the outcome, of the readings that came in
+got : (c : tie.After-outcome) → let a = c .before .before .before .before .args in c .outcome .result ≡ outcomeFor (a .flow) (a .content) (a .temp) (a .press) (a .status) (a .flow-held) (a .content-held)
+got c =
+    let a = c .before .before .before .before .args in
+    let l : c .before .lacks .result ≡ either (tempMissing (a .temp)) (pressMissing (a .press)) =
+    c .before .lacks .ensures ∙ ap (λ (z : ℤ). either (tempMissing z) (pressMissing (a .press))) (toZ-ofZ (c .before .before .before .before .fits .temp)) in
+    let f : c .before .before .before .held-outcome .result ≡ heldOutcome 1 (a .flow-held) = c .before .before .before .held-outcome .ensures in
+    let g : c .before .before .held-outcome2 .result ≡ heldOutcome 2 (a .content-held) = c .before .before .held-outcome2 .ensures in
+    cc (c .outcome .ensures)
 
 -- src/lib.rt:108:9
 held-outcome-requires : tie.Need-held-outcome-requires
@@ -26,15 +47,18 @@ outcome-requires c κs = search needs
 
 -- src/lib.rt:119:13
 methane-litres-requires : tie.Need-methane-litres-requires
-methane-litres-requires c κs = search needs
+methane-litres-requires c κs = let a = c .before .before .before .before .before .args in let e = got (c .before) in
+    subst (λ (z : ℤ). Inside (a .flow-held) z (a .press) × (a .content-held ≤ contentMost)) (sym (toZ-ofZ (c .before .before .before .before .before .fits .temp)))
+    (counted-inside _ _ _ _ (a .status) _ _ (c .before .before .before .before .before .pre) (let h : outcomeFor (a .flow) (a .content) (a .temp) (a .press) (a .status) (a .flow-held) (a .content-held) < 3 = subst (λ (k : ℕ). k < 3) e (c .if1 .taken) in h))
 
 -- src/lib.rt:96:1
 returns : tie.Need-returns
-returns c = search needs
+returns c = let a = c .before .before .before .before .before .before .args in counted-entry _ _ _ _ _ _ _ _ (got (c .before .before)) (c .before .if1 .taken) _
+    (c .methane-litres .ensures .0 ∙ ap (λ (z : ℤ). methaneLitres (a .flow-held) (a .content-held) z (a .press)) (toZ-ofZ (c .before .before .before .before .before .before .fits .temp)))
 
 -- src/lib.rt:96:1
 returns-2 : tie.Need-returns-2
-returns-2 c = search needs
+returns-2 c = excluded-entry _ _ _ _ _ _ _ _ (got (c .before)) (c .if1 .left)
 
 pub settle-spec : {M : Type 1} → statement M
 settle-spec =
