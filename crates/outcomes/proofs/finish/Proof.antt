@@ -1,3 +1,13 @@
+use native.Mathlib.Nat.{not-suc-le-zero}
+use Prim.Native.Nat.{ℕ, _+_, _-_, _*_, _^_, _≤_, _<_}
+use mathlib.Core.Path.{_≡_, refl, sym, ap, _∙_, subst}
+use native.Mathlib.Omega.{arith}
+use lib.IntN.{ℤ}
+use lib.ListN.{length}
+use mir.Facts.{toZ-ofZ}
+use Rattle.outcomes.specs.declared.Entry.{Entry}
+use Rattle.outcomes.specs.Outcomes.{entryOf, entryAt, Held, Ready, ReadyAt, Finished}
+use Rattle.outcomes.proofs.Pass.{Going, reads-ready, reads-entry, going-none, going-few, going-more, methane-room, count-room, going-all, length-rows, inside-rows, zeros}
 use borrow.Author.Needs.{needs}
 use Rattle.outcomes.proofs.finish.Statement.{statement}
 use Rattle.outcomes.proofs.finish.Tie as tie
@@ -7,15 +17,37 @@ use Rattle.outcomes.proofs.settle.Reads as settle-reads
 
 abbrev Inv-loop : tie.InvT-loop
 Inv-loop flow content temp press status outcomes₀ flow-used₀ content-used₀ n counts₀ methane₀ i₀ outcomes flow-used content-used counts methane i =
-    ?
+    Going (record { flow = flow; content = content; temp = temp; press = press; status = status; flow-held = flow-used₀; content-held = content-used₀ }) n outcomes₀ outcomes flow-used content-used counts methane i
 
 abbrev μ-loop : tie.MeasureT-loop
 μ-loop flow content temp press status outcomes₀ flow-used₀ content-used₀ n counts₀ methane₀ i₀ outcomes flow-used content-used counts methane i =
-    ?
+    n - i
+
+-- the device's rows, and the entry that is given for the interval
+abbrev rows : tie.After-settle Inv-loop μ-loop → Held
+rows c =
+    let a = c .before .before .before .before .before .before .before .before .before .before .before .before .before .before .before .before .before .args in
+    record {
+      flow = a .flow .now;
+      content = a .content .now;
+      temp = a .temp .now;
+      press = a .press .now;
+      status = a .status .now;
+      flow-held = a .flow-used .now;
+      content-held = a .content-used .now;
+    }
+
+got : (c : tie.After-settle Inv-loop μ-loop) → c .settle .result ≡ entryAt (rows c) (c .before .before .before .before .before .before .before .before .before .loop .i)
+got c =
+    c .settle .ensures
+    ∙ reads-entry (c .before .before .before .before .before .before .before .before .before .loop .inv) (c .before .before .before .before .before .before .before .before .loop-test .taken) _ (toZ-ofZ (record { sfits = c .before .before .before .before .before .settle-arg .given }))
+
+below : (k m : ℕ) → k ≤ m → m < 2 ^ 64 → k < 2 ^ 64
+below k m h l = omega arith
 
 -- src/lib.rt:176:5
 loop-holds : tie.Need-loop-holds Inv-loop μ-loop
-loop-holds c = search needs
+loop-holds c = going-none _ _ _ _ (c .before .before .before .before .before .before .before .pre .0) (c .before .before .before .before .before .before .before .pre .1) refl (λ j h. zeros 10 j)
 
 -- src/lib.rt:178:13
 mul-settle : tie.Need-mul-settle Inv-loop μ-loop
@@ -59,7 +91,7 @@ mul-settle-5 c = search needs
 
 -- src/lib.rt:183:13
 slice-read-settle : tie.Need-slice-read-settle Inv-loop μ-loop
-slice-read-settle c = search needs
+slice-read-settle c = inside-rows (c .before .before .before .before .before .before .before .loop .inv) (c .before .before .before .before .before .before .loop-test .taken) .1
 
 -- src/lib.rt:184:13
 mul-settle-6 : tie.Need-mul-settle-6 Inv-loop μ-loop
@@ -67,15 +99,15 @@ mul-settle-6 c = search needs
 
 -- src/lib.rt:184:13
 slice-read-settle-2 : tie.Need-slice-read-settle-2 Inv-loop μ-loop
-slice-read-settle-2 c = search needs
+slice-read-settle-2 c = inside-rows (c .before .before .before .before .before .before .before .before .loop .inv) (c .before .before .before .before .before .before .before .loop-test .taken) .2
 
 -- src/lib.rt:177:13
 settle-requires : tie.Need-settle-requires Inv-loop μ-loop
-settle-requires c κs = search needs
+settle-requires c κs = reads-ready (c .before .before .before .before .before .before .before .before .loop .inv) (c .before .before .before .before .before .before .before .loop-test .taken) _ (toZ-ofZ (record { sfits = c .before .before .before .before .settle-arg .given }))
 
 -- src/lib.rt:187:9
 slice-write-outcomes : tie.Need-slice-write-outcomes Inv-loop μ-loop
-slice-write-outcomes c = search needs
+slice-write-outcomes c = inside-rows (c .before .before .before .before .before .before .before .before .before .loop .inv) (c .before .before .before .before .before .before .before .before .loop-test .taken) .0
 
 -- src/lib.rt:188:9
 mul-flow-used : tie.Need-mul-flow-used Inv-loop μ-loop
@@ -83,7 +115,7 @@ mul-flow-used c = search needs
 
 -- src/lib.rt:188:9
 slice-write-flow-used : tie.Need-slice-write-flow-used Inv-loop μ-loop
-slice-write-flow-used c = search needs
+slice-write-flow-used c = inside-rows (c .before .before .before .before .before .before .before .before .before .loop .inv) (c .before .before .before .before .before .before .before .before .loop-test .taken) .1
 
 -- src/lib.rt:189:9
 mul-content-used : tie.Need-mul-content-used Inv-loop μ-loop
@@ -91,7 +123,7 @@ mul-content-used c = search needs
 
 -- src/lib.rt:189:9
 slice-write-content-used : tie.Need-slice-write-content-used Inv-loop μ-loop
-slice-write-content-used c = search needs
+slice-write-content-used c = inside-rows (c .before .before .before .before .before .before .before .before .before .loop .inv) (c .before .before .before .before .before .before .before .before .loop-test .taken) .2
 
 -- src/lib.rt:190:37
 cast-counts : tie.Need-cast-counts Inv-loop μ-loop
@@ -103,11 +135,11 @@ mul-counts c = search needs
 
 -- src/lib.rt:190:30
 array-read-counts : tie.Need-array-read-counts Inv-loop μ-loop
-array-read-counts c = search needs
+array-read-counts c = going-few (c .before .before .before .before .before .before .before .before .before .loop .inv) (c .before .before .before .before .before .before .before .before .loop-test .taken) _ (got c)
 
 -- src/lib.rt:190:30
 add-counts : tie.Need-add-counts Inv-loop μ-loop
-add-counts c = search needs
+add-counts c = record { fits = below _ _ (count-room (c .before .before .before .before .before .before .before .before .before .loop .inv) (c .before .before .before .before .before .before .before .before .loop-test .taken) _ (got c)) (omega arith) }
 
 -- src/lib.rt:190:16
 cast-counts-2 : tie.Need-cast-counts-2 Inv-loop μ-loop
@@ -119,11 +151,11 @@ mul-counts-2 c = search needs
 
 -- src/lib.rt:190:9
 array-write-counts : tie.Need-array-write-counts Inv-loop μ-loop
-array-write-counts c = search needs
+array-write-counts c = going-few (c .before .before .before .before .before .before .before .before .before .loop .inv) (c .before .before .before .before .before .before .before .before .loop-test .taken) _ (got c)
 
 -- src/lib.rt:191:19
 add-methane : tie.Need-add-methane Inv-loop μ-loop
-add-methane c = search needs
+add-methane c = record { fits = below _ _ (methane-room (c .before .before .before .before .before .before .before .before .before .before .loop .inv) (c .before .before .before .before .before .before .before .before .before .loop-test .taken) _ (got (c .before))) (omega arith) }
 
 -- src/lib.rt:192:9
 add-i : tie.Need-add-i Inv-loop μ-loop
@@ -135,23 +167,23 @@ loop-less c = search needs
 
 -- src/lib.rt:176:5
 loop-again : tie.Need-loop-again Inv-loop μ-loop
-loop-again c = search needs
+loop-again c = going-more (c .before .before .before .before .before .before .before .before .before .before .loop .inv) (c .before .before .before .before .before .before .before .before .before .loop-test .taken) _ (got ((c .before)))
 
 -- src/lib.rt:138:1
 same-length : tie.Need-same-length Inv-loop μ-loop
-same-length c = search needs
+same-length c = length-rows (c .before .loop .inv) .0 ∙ sym (c .before .before .before .before .before .before .before .before .before .pre .1)
 
 -- src/lib.rt:138:1
 same-length-2 : tie.Need-same-length-2 Inv-loop μ-loop
-same-length-2 c = search needs
+same-length-2 c = length-rows (c .before .loop .inv) .1 ∙ sym (c .before .loop .inv .ready .flow-rows)
 
 -- src/lib.rt:138:1
 same-length-3 : tie.Need-same-length-3 Inv-loop μ-loop
-same-length-3 c = search needs
+same-length-3 c = length-rows (c .before .loop .inv) .2 ∙ sym (c .before .loop .inv .ready .content-rows)
 
 -- src/lib.rt:138:1
 returns : tie.Need-returns Inv-loop μ-loop
-returns c = search needs
+returns c = going-all (c .before .loop .inv) (c .loop-test .left)
 
 pub finish-spec : {M : Type 1} → statement M
 finish-spec =
