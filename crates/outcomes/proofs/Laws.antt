@@ -1,24 +1,24 @@
 -- Laws of outcomes: which there are, what a counted interval's values are, and what a device's sums are.
 -- Assumes nothing.
-use Prim.Native.Nat.{ℕ, _+_, _-_, _*_, _≤_, _<_}
+use Prim.Native.Nat.{ℕ, _-_, _*_, _≤_, _<_}
 use mathlib.Core.Path.{_≡_, refl, sym, ap, _∙_, subst}
 use mathlib.Core.Bool.{Bool, true, false, not}
-use native.Mathlib.Nat.{lt-irrefl}
+use mathlib.Core.List.{List}
 use native.Mathlib.Omega.{arith}
 use lib.Dec.{eqb, ltb, leb}
 use lib.IntN.{ℤ, pos, negsuc}
 use lib.Signed.{ltZ}
 use lib.ListN.{length, getD}
 use borrow.Author.Tests.{ltb-true, ltb-false, lt-ltb, le-ltb, leb-true, not-true}
-use Rattle.rows.specs.Rows.{pick, both, either, build, sumTo, countOf}
-use Rattle.rows.proofs.Laws.{both-true}
-use Rattle.rows.proofs.Sums.{sumTo-bound, counts-add}
+use Rattle.rows.specs.Rows.{pick, both, either, sumTo, countOf}
+use Rattle.rows.proofs.Laws.{both-true, length-build, getD-build}
+use Rattle.rows.proofs.Sums.{sumTo-bound, sumTo-ext, counts-add}
 use Rattle.protocol.specs.Ranges.{mark, tempMissing, pressMissing, tempRight, pressRight, between, kelvinOf, flowMost, contentMost}
 use Rattle.volume.specs.Volume.{methaneLitres, Inside, litresMost}
-use Rattle.volume.proofs.Laws.{methane-litres-most}
+use Rattle.volume.proofs.Laws.{methane-litres-most, no-flow}
 use Rattle.runs.specs.Runs.{excluding}
-use Rattle.outcomes.specs.declared.Entry.{Entry}
-use Rattle.outcomes.specs.Outcomes.{outcomes, outcomeOf, counted, usedFor, litresFor, heldOutcome, entryOf, entryAt, sumsOf, Held, Holds, Ready, ReadyAt}
+use Rattle.outcomes.specs.declared.Sums.{Sums}
+use Rattle.outcomes.specs.Outcomes.{outcomes, outcomeOf, counted, litresFor, heldOutcome, entryOf, entryAt, sumsOf, Held, Holds, Ready, ReadyAt, Finished}
 
 clash : {X : Type 0} {b : Bool} → b ≡ true → b ≡ false → X
 clash p q = let z : _≡_ {A = ℕ} 0 1 = cc in absurd (let w : ⊥ = omega arith in w)
@@ -131,13 +131,15 @@ module _ (flow content : ℕ) (temp : ℤ) (press status flowHeld contentHeld : 
   counted-inside h =
       let y = counts (eqb status 0) (eqb status 3) (either (tempMissing temp) (pressMissing press)) (eqb flow mark) (eqb content mark) (eqb status 1) (heldOutcome 1 flowHeld) (heldOutcome 2 contentHeld) h in
       let m = either-false-both (tempMissing temp) (pressMissing press) (y .has) in
-      let k = kelvin-bounds temp (x .temp-right) (m .0) in
-      (record {
-         flow-most = held-right flow flowHeld flowMost 1 (x .flow-held) (y .flow-found);
-         kelvin-least = k .0;
-         kelvin-most = k .1;
-         press-most = press-bound press (x .press-right) (m .1);
-       }, held-right content contentHeld contentMost 2 (x .content-held) (y .content-found))
+      let k = kelvin-bounds temp (x .temp-right) (m .0) in (
+        record {
+          flow-most = held-right flow flowHeld flowMost 1 (x .flow-held) (y .flow-found);
+          kelvin-least = k .0;
+          kelvin-most = k .1;
+          press-most = press-bound press (x .press-right) (m .1);
+        },
+        held-right content contentHeld contentMost 2 (x .content-held) (y .content-found),
+      )
 
   -- ten outcomes
   pub outcome-few : outcomeFor flow content temp press status flowHeld contentHeld < 10
@@ -210,3 +212,51 @@ methane-most h n x = methane-to h n x n (omega arith)
 pub counts-total : (h : Held) (n : ℕ) → ReadyAt h n → sumTo outcomes (countOf n (λ k. entryAt h k .outcome)) ≡ n
 counts-total h n x = counts-add n 10 (λ k. entryAt h k .outcome) (outcome-of-ten h n x)
 
+-- the ten counts, read off the sums
+pub count-at : (h : Held) (n j : ℕ) → j < outcomes → getD (sumsOf n (entryAt h) .counts) j 0 ≡ countOf n (λ k. entryAt h k .outcome) j
+unfolding sumsOf
+count-at h n j l = getD-build outcomes (countOf n (λ k. entryAt h k .outcome)) j 0 l
+
+pub counts-ten : (h : Held) (n : ℕ) → length (sumsOf n (entryAt h) .counts) ≡ outcomes
+unfolding sumsOf
+counts-ten h n = length-build outcomes (countOf n (λ k. entryAt h k .outcome))
+
+-- "ten counts, one for each outcome, adding to N", of the list itself
+pub counts-sum : (h : Held) (n : ℕ) → ReadyAt h n → sumTo outcomes (λ j. getD (sumsOf n (entryAt h) .counts) j 0) ≡ n
+counts-sum h n x =
+    sumTo-ext outcomes (λ j. getD (sumsOf n (entryAt h) .counts) j 0) (countOf n (λ k. entryAt h k .outcome)) (λ j l. count-at h n j l)
+    ∙ counts-total h n x
+
+-- a counted interval's used values are in range
+pub counted-used : (h : Held) (n : ℕ) → ReadyAt h n → (i : ℕ) → i < n → counted (entryAt h i .outcome) ≡ true
+    → Inside (entryAt h i .flow) (getD (h .temp) i (pos 0)) (getD (h .press) i 0) × (entryAt h i .content ≤ contentMost)
+unfolding entryAt entryOf
+counted-used h n x i l e =
+    let y = counted-inside (getD (h .flow) i mark) (getD (h .content) i mark) (getD (h .temp) i (pos 0)) (getD (h .press) i 0) (getD (h .status) i 0) (getD (h .flow-held) i mark) (getD (h .content-held) i mark) (x .ready i l) (ltb-true (entryAt h i .outcome) 3 e) in
+    simp e y
+
+-- an excluded interval's used values are 0
+pub excluded-used : (h : Held) (i : ℕ) → counted (entryAt h i .outcome) ≡ false
+    → (entryAt h i .flow ≡ 0) × (entryAt h i .content ≡ 0) × (entryAt h i .litres ≡ 0)
+unfolding entryAt entryOf litresFor
+excluded-used h i e = (simp e, simp e, simp e)
+
+-- an interval's litres are those of its used values, counted or not
+pub litres-of-used : (h : Held) (i : ℕ) → entryAt h i .litres ≡ methaneLitres (entryAt h i .flow) (entryAt h i .content) (getD (h .temp) i (pos 0)) (getD (h .press) i 0)
+unfolding entryAt entryOf litresFor
+litres-of-used h i = go (counted (entryAt h i .outcome))
+  where
+    go : (t : Bool) → pick t (methaneLitres (getD (h .flow-held) i mark) (getD (h .content-held) i mark) (getD (h .temp) i (pos 0)) (getD (h .press) i 0)) 0
+        ≡ methaneLitres (pick t (getD (h .flow-held) i mark) 0) (pick t (getD (h .content-held) i mark) 0) (getD (h .temp) i (pos 0)) (getD (h .press) i 0)
+    go true = refl
+    go false = sym (no-flow 0 (getD (h .temp) i (pos 0)) (getD (h .press) i 0))
+
+-- the contract permits one result only
+pub finished-unique : (h : Held) (o f c p g d : List ℕ) (s t : Sums) → Finished h o f c s → Finished h p g d t
+    → (o ≡ p) × (f ≡ g) × (c ≡ d) × (s ≡ t)
+finished-unique h o f c p g d s t x y = (
+  x .outcome-row ∙ sym (y .outcome-row),
+  x .flow-row ∙ sym (y .flow-row),
+  x .content-row ∙ sym (y .content-row),
+  x .sums ∙ sym (y .sums),
+)

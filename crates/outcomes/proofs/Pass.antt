@@ -1,10 +1,9 @@
 -- The last pass as a loop's invariant: the rows and sums after the first i intervals. Start, step and end.
 -- Assumes nothing.
-use Prim.Native.Nat.{ℕ, zero, suc, _+_, _-_, _*_, _≤_, _<_}
+use Prim.Native.Nat.{ℕ, zero, suc, _+_, _*_, _≤_, _<_}
 use mathlib.Core.Path.{_≡_, refl, sym, ap, ap₂, _∙_, subst}
 use mathlib.Core.Bool.{Bool, true, false}
-use mathlib.Core.Logic.{⊎-elim}
-use mathlib.Core.List.{List, [], _∷_, _++_}
+use mathlib.Core.List.{List, _++_}
 use native.Mathlib.Nat.{le-antisymm}
 use native.Mathlib.Numerals.{add-one}
 use native.Mathlib.Omega.{arith}
@@ -19,7 +18,6 @@ use Rattle.rows.proofs.Sums.{hit-same, hit-other, sumTo-bound}
 use Rattle.protocol.specs.Ranges.{mark}
 use Rattle.volume.specs.Volume.{litresMost}
 use Rattle.outcomes.specs.declared.Entry.{Entry}
-use Rattle.outcomes.specs.declared.Sums.{Sums}
 use Rattle.outcomes.specs.Outcomes.{outcomes, entryOf, entryAt, sumsOf, Held, Ready, ReadyAt, Finished}
 use Rattle.outcomes.proofs.Laws.{outcome-of-ten, litres-of-entry, methane-to}
 

@@ -1,19 +1,12 @@
-use native.Mathlib.Nat.{not-suc-le-zero}
-use Prim.Native.Nat.{ℕ, _+_, _-_, _*_, _^_, _≤_, _<_}
-use mathlib.Core.Path.{_≡_, refl, sym, ap, _∙_, subst}
+use Prim.Native.Nat.{_-_}
+use mathlib.Core.Path.{_≡_, refl, sym, _∙_}
 use native.Mathlib.Omega.{arith}
-use lib.IntN.{ℤ}
-use lib.ListN.{length}
 use mir.Facts.{toZ-ofZ}
-use Rattle.outcomes.specs.declared.Entry.{Entry}
-use Rattle.outcomes.specs.Outcomes.{entryOf, entryAt, Held, Ready, ReadyAt, Finished}
+use Rattle.outcomes.specs.Outcomes.{entryAt, Held}
 use Rattle.outcomes.proofs.Pass.{Going, reads-ready, reads-entry, going-none, going-few, going-more, methane-room, count-room, going-all, length-rows, inside-rows, zeros}
 use borrow.Author.Needs.{needs}
 use Rattle.outcomes.proofs.finish.Statement.{statement}
 use Rattle.outcomes.proofs.finish.Tie as tie
-use Rattle.outcomes.proofs.finish.Reads as reads
-use Rattle.outcomes.proofs.finish.Lts as lts
-use Rattle.outcomes.proofs.settle.Reads as settle-reads
 
 abbrev Inv-loop : tie.InvT-loop
 Inv-loop flow content temp press status outcomes₀ flow-used₀ content-used₀ n counts₀ methane₀ i₀ outcomes flow-used content-used counts methane i =
@@ -42,146 +35,108 @@ got c =
     c .settle .ensures
     ∙ reads-entry (c .before .before .before .before .before .before .before .before .before .loop .inv) (c .before .before .before .before .before .before .before .before .loop-test .taken) _ (toZ-ofZ (record { sfits = c .before .before .before .before .before .settle-arg .given }))
 
-below : (k m : ℕ) → k ≤ m → m < 2 ^ 64 → k < 2 ^ 64
-below k m h l = omega arith
-
--- src/lib.rt:176:5
 loop-holds : tie.Need-loop-holds Inv-loop μ-loop
 loop-holds c = going-none _ _ _ _ (c .before .before .before .before .before .before .before .pre .0) (c .before .before .before .before .before .before .before .pre .1) refl (λ j h. zeros 10 j)
 
--- src/lib.rt:178:13
 mul-settle : tie.Need-mul-settle Inv-loop μ-loop
 mul-settle c = search needs
 
--- src/lib.rt:178:13
 shared-slice-read-settle : tie.Need-shared-slice-read-settle Inv-loop μ-loop
 shared-slice-read-settle c = search needs
 
--- src/lib.rt:179:13
 mul-settle-2 : tie.Need-mul-settle-2 Inv-loop μ-loop
 mul-settle-2 c = search needs
 
--- src/lib.rt:179:13
 shared-slice-read-settle-2 : tie.Need-shared-slice-read-settle-2 Inv-loop μ-loop
 shared-slice-read-settle-2 c = search needs
 
--- src/lib.rt:180:13
 mul-settle-3 : tie.Need-mul-settle-3 Inv-loop μ-loop
 mul-settle-3 c = search needs
 
--- src/lib.rt:180:13
 shared-slice-copy-out-settle : tie.Need-shared-slice-copy-out-settle Inv-loop μ-loop
 shared-slice-copy-out-settle c = search needs
 
--- src/lib.rt:181:13
 mul-settle-4 : tie.Need-mul-settle-4 Inv-loop μ-loop
 mul-settle-4 c = search needs
 
--- src/lib.rt:181:13
 shared-slice-read-settle-3 : tie.Need-shared-slice-read-settle-3 Inv-loop μ-loop
 shared-slice-read-settle-3 c = search needs
 
--- src/lib.rt:182:13
 shared-slice-read-settle-4 : tie.Need-shared-slice-read-settle-4 Inv-loop μ-loop
 shared-slice-read-settle-4 c = search needs
 
--- src/lib.rt:183:13
 mul-settle-5 : tie.Need-mul-settle-5 Inv-loop μ-loop
 mul-settle-5 c = search needs
 
--- src/lib.rt:183:13
 slice-read-settle : tie.Need-slice-read-settle Inv-loop μ-loop
-slice-read-settle c = inside-rows (c .before .before .before .before .before .before .before .loop .inv) (c .before .before .before .before .before .before .loop-test .taken) .1
+slice-read-settle c = omega (arith, inside-rows (c .before .before .before .before .before .before .before .loop .inv) (c .before .before .before .before .before .before .loop-test .taken) .1)
 
--- src/lib.rt:184:13
 mul-settle-6 : tie.Need-mul-settle-6 Inv-loop μ-loop
 mul-settle-6 c = search needs
 
--- src/lib.rt:184:13
 slice-read-settle-2 : tie.Need-slice-read-settle-2 Inv-loop μ-loop
-slice-read-settle-2 c = inside-rows (c .before .before .before .before .before .before .before .before .loop .inv) (c .before .before .before .before .before .before .before .loop-test .taken) .2
+slice-read-settle-2 c = omega (arith, inside-rows (c .before .before .before .before .before .before .before .before .loop .inv) (c .before .before .before .before .before .before .before .loop-test .taken) .2)
 
--- src/lib.rt:177:13
 settle-requires : tie.Need-settle-requires Inv-loop μ-loop
 settle-requires c κs = reads-ready (c .before .before .before .before .before .before .before .before .loop .inv) (c .before .before .before .before .before .before .before .loop-test .taken) _ (toZ-ofZ (record { sfits = c .before .before .before .before .settle-arg .given }))
 
--- src/lib.rt:187:9
 slice-write-outcomes : tie.Need-slice-write-outcomes Inv-loop μ-loop
-slice-write-outcomes c = inside-rows (c .before .before .before .before .before .before .before .before .before .loop .inv) (c .before .before .before .before .before .before .before .before .loop-test .taken) .0
+slice-write-outcomes c = omega (arith, inside-rows (c .before .before .before .before .before .before .before .before .before .loop .inv) (c .before .before .before .before .before .before .before .before .loop-test .taken) .0)
 
--- src/lib.rt:188:9
 mul-flow-used : tie.Need-mul-flow-used Inv-loop μ-loop
 mul-flow-used c = search needs
 
--- src/lib.rt:188:9
 slice-write-flow-used : tie.Need-slice-write-flow-used Inv-loop μ-loop
-slice-write-flow-used c = inside-rows (c .before .before .before .before .before .before .before .before .before .loop .inv) (c .before .before .before .before .before .before .before .before .loop-test .taken) .1
+slice-write-flow-used c = omega (arith, inside-rows (c .before .before .before .before .before .before .before .before .before .loop .inv) (c .before .before .before .before .before .before .before .before .loop-test .taken) .1)
 
--- src/lib.rt:189:9
 mul-content-used : tie.Need-mul-content-used Inv-loop μ-loop
 mul-content-used c = search needs
 
--- src/lib.rt:189:9
 slice-write-content-used : tie.Need-slice-write-content-used Inv-loop μ-loop
-slice-write-content-used c = inside-rows (c .before .before .before .before .before .before .before .before .before .loop .inv) (c .before .before .before .before .before .before .before .before .loop-test .taken) .2
+slice-write-content-used c = omega (arith, inside-rows (c .before .before .before .before .before .before .before .before .before .loop .inv) (c .before .before .before .before .before .before .before .before .loop-test .taken) .2)
 
--- src/lib.rt:190:37
 cast-counts : tie.Need-cast-counts Inv-loop μ-loop
 cast-counts c = search needs
 
--- src/lib.rt:190:30
 mul-counts : tie.Need-mul-counts Inv-loop μ-loop
 mul-counts c = search needs
 
--- src/lib.rt:190:30
 array-read-counts : tie.Need-array-read-counts Inv-loop μ-loop
 array-read-counts c = going-few (c .before .before .before .before .before .before .before .before .before .loop .inv) (c .before .before .before .before .before .before .before .before .loop-test .taken) _ (got c)
 
--- src/lib.rt:190:30
 add-counts : tie.Need-add-counts Inv-loop μ-loop
-add-counts c = record { fits = below _ _ (count-room (c .before .before .before .before .before .before .before .before .before .loop .inv) (c .before .before .before .before .before .before .before .before .loop-test .taken) _ (got c)) (omega arith) }
+add-counts c = record { fits = omega (arith, count-room (c .before .before .before .before .before .before .before .before .before .loop .inv) (c .before .before .before .before .before .before .before .before .loop-test .taken) _ (got c)) }
 
--- src/lib.rt:190:16
 cast-counts-2 : tie.Need-cast-counts-2 Inv-loop μ-loop
 cast-counts-2 c = search needs
 
--- src/lib.rt:190:9
 mul-counts-2 : tie.Need-mul-counts-2 Inv-loop μ-loop
 mul-counts-2 c = search needs
 
--- src/lib.rt:190:9
 array-write-counts : tie.Need-array-write-counts Inv-loop μ-loop
 array-write-counts c = going-few (c .before .before .before .before .before .before .before .before .before .loop .inv) (c .before .before .before .before .before .before .before .before .loop-test .taken) _ (got c)
 
--- src/lib.rt:191:19
 add-methane : tie.Need-add-methane Inv-loop μ-loop
-add-methane c = record { fits = below _ _ (methane-room (c .before .before .before .before .before .before .before .before .before .before .loop .inv) (c .before .before .before .before .before .before .before .before .before .loop-test .taken) _ (got (c .before))) (omega arith) }
+add-methane c = record { fits = omega (arith, methane-room (c .before .before .before .before .before .before .before .before .before .before .loop .inv) (c .before .before .before .before .before .before .before .before .before .loop-test .taken) _ (got (c .before))) }
 
--- src/lib.rt:192:9
 add-i : tie.Need-add-i Inv-loop μ-loop
 add-i c = search needs
 
--- src/lib.rt:176:5
 loop-less : tie.Need-loop-less Inv-loop μ-loop
 loop-less c = search needs
 
--- src/lib.rt:176:5
 loop-again : tie.Need-loop-again Inv-loop μ-loop
-loop-again c = going-more (c .before .before .before .before .before .before .before .before .before .before .loop .inv) (c .before .before .before .before .before .before .before .before .before .loop-test .taken) _ (got ((c .before)))
+loop-again c = going-more (c .before .before .before .before .before .before .before .before .before .before .loop .inv) (c .before .before .before .before .before .before .before .before .before .loop-test .taken) _ (got (c .before))
 
--- src/lib.rt:138:1
 same-length : tie.Need-same-length Inv-loop μ-loop
 same-length c = length-rows (c .before .loop .inv) .0 ∙ sym (c .before .before .before .before .before .before .before .before .before .pre .1)
 
--- src/lib.rt:138:1
 same-length-2 : tie.Need-same-length-2 Inv-loop μ-loop
 same-length-2 c = length-rows (c .before .loop .inv) .1 ∙ sym (c .before .loop .inv .ready .flow-rows)
 
--- src/lib.rt:138:1
 same-length-3 : tie.Need-same-length-3 Inv-loop μ-loop
 same-length-3 c = length-rows (c .before .loop .inv) .2 ∙ sym (c .before .loop .inv .ready .content-rows)
 
--- src/lib.rt:138:1
 returns : tie.Need-returns Inv-loop μ-loop
 returns c = going-all (c .before .loop .inv) (c .loop-test .left)
 

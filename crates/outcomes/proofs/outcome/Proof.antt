@@ -1,48 +1,35 @@
-use mathlib.Core.Path.{_≡_, refl, sym, ap, _∙_}
-use lib.Dec.{eqb}
-use borrow.Author.Tests.{eq-eqb, ne-eqb, lt-ltb, le-ltb}
+use borrow.Author.Tests.{eq-eqb, ne-eqb}
 use Rattle.outcomes.specs.Outcomes.{outcomeOf}
 use borrow.Author.Needs.{needs}
 use Rattle.outcomes.proofs.outcome.Statement.{statement}
 use Rattle.outcomes.proofs.outcome.Tie as tie
-use Rattle.outcomes.proofs.outcome.Reads as reads
-use Rattle.outcomes.proofs.outcome.Lts as lts
-use Rattle.outcomes.proofs.replaced.Reads as replaced-reads
 
--- src/lib.rt:44:9
 returns : tie.Need-returns
 unfolding outcomeOf
 returns c = simp (eq-eqb _ 0 (c .if1 .taken))
 
--- src/lib.rt:47:9
 returns-2 : tie.Need-returns-2
 unfolding outcomeOf
 returns-2 c = simp (ne-eqb _ 0 (c .before .if1 .left), eq-eqb _ 3 (c .if2 .taken))
 
--- src/lib.rt:50:9
 returns-3 : tie.Need-returns-3
 unfolding outcomeOf
 returns-3 c = simp (ne-eqb _ 0 (c .before .before .if1 .left), ne-eqb _ 3 (c .before .if2 .left), c .if3 .taken)
 
--- src/lib.rt:53:9
 replaced-requires : tie.Need-replaced-requires
 replaced-requires c κs = search needs
 
--- src/lib.rt:53:9
 returns-4 : tie.Need-returns-4
 unfolding outcomeOf
 returns-4 c = simp (ne-eqb _ 0 (c .before .before .before .before .if1 .left), ne-eqb _ 3 (c .before .before .before .if2 .left), c .before .before .if3 .left, c .before .if4 .taken) (c .replaced .ensures)
 
--- src/lib.rt:56:9
 replaced-requires-2 : tie.Need-replaced-requires-2
 replaced-requires-2 c κs = search needs
 
--- src/lib.rt:56:9
 returns-5 : tie.Need-returns-5
 unfolding outcomeOf
 returns-5 c = simp (ne-eqb _ 0 (c .before .before .before .before .before .if1 .left), ne-eqb _ 3 (c .before .before .before .before .if2 .left), c .before .before .before .if3 .left, c .before .before .if4 .left, c .before .if5 .taken) (c .replaced2 .ensures)
 
--- src/lib.rt:33:1
 returns-6 : tie.Need-returns-6
 unfolding outcomeOf
 returns-6 c = simp (ne-eqb _ 0 (c .before .before .before .before .if1 .left), ne-eqb _ 3 (c .before .before .before .if2 .left), c .before .before .if3 .left, c .before .if4 .left, c .if5 .left)

@@ -1,23 +1,16 @@
-use mathlib.Core.Path.{_≡_, refl, sym, ap, _∙_, subst}
+use mathlib.Core.Path.{_≡_, sym, ap, _∙_, subst}
 use lib.IntN.{ℤ}
+use native.Mathlib.Omega.{arith}
 use mir.Facts.{toZ-ofZ}
 use Rattle.rows.specs.Rows.{either}
 use Rattle.protocol.specs.Ranges.{tempMissing, pressMissing}
-use Prim.Native.Nat.{ℕ, _≤_, _<_}
-use native.Mathlib.Omega.{arith}
+use Prim.Native.Nat.{ℕ, _<_}
 use Rattle.volume.specs.Volume.{methaneLitres, Inside}
-use Rattle.protocol.specs.Ranges.{contentMost}
-use Rattle.outcomes.specs.Outcomes.{outcomeOf, heldOutcome}
+use Rattle.outcomes.specs.Outcomes.{heldOutcome}
 use Rattle.outcomes.proofs.Laws.{outcomeFor, counted-inside, counted-entry, excluded-entry}
 use borrow.Author.Needs.{needs}
 use Rattle.outcomes.proofs.settle.Statement.{statement}
 use Rattle.outcomes.proofs.settle.Tie as tie
-use Rattle.outcomes.proofs.settle.Reads as reads
-use Rattle.outcomes.proofs.settle.Lts as lts
-use Rattle.outcomes.proofs.held_outcome.Reads as held-outcome-reads
-use Rattle.outcomes.proofs.lacks.Reads as lacks-reads
-use Rattle.outcomes.proofs.outcome.Reads as outcome-reads
-use Rattle.volume.proofs.methane_litres.Reads as methane-litres-reads
 
 -- the outcome, of the readings that came in
 got : (c : tie.After-outcome) → let a = c .before .before .before .before .args in c .outcome .result ≡ outcomeFor (a .flow) (a .content) (a .temp) (a .press) (a .status) (a .flow-held) (a .content-held)
@@ -29,34 +22,27 @@ got c =
     let g : c .before .before .held-outcome2 .result ≡ heldOutcome 2 (a .content-held) = c .before .before .held-outcome2 .ensures in
     cc (c .outcome .ensures)
 
--- src/lib.rt:108:9
 held-outcome-requires : tie.Need-held-outcome-requires
 held-outcome-requires c κs = search needs
 
--- src/lib.rt:109:9
 held-outcome-requires-2 : tie.Need-held-outcome-requires-2
 held-outcome-requires-2 c κs = search needs
 
--- src/lib.rt:112:9
 lacks-requires : tie.Need-lacks-requires
 lacks-requires c κs = search needs
 
--- src/lib.rt:110:9
 outcome-requires : tie.Need-outcome-requires
 outcome-requires c κs = search needs
 
--- src/lib.rt:119:13
 methane-litres-requires : tie.Need-methane-litres-requires
-methane-litres-requires c κs = let a = c .before .before .before .before .before .args in let e = got (c .before) in
-    subst (λ (z : ℤ). Inside (a .flow-held) z (a .press) × (a .content-held ≤ contentMost)) (sym (toZ-ofZ (c .before .before .before .before .before .fits .temp)))
-    (counted-inside _ _ _ _ (a .status) _ _ (c .before .before .before .before .before .pre) (let h : outcomeFor (a .flow) (a .content) (a .temp) (a .press) (a .status) (a .flow-held) (a .content-held) < 3 = subst (λ (k : ℕ). k < 3) e (c .if1 .taken) in h))
+methane-litres-requires c κs = let a = c .before .before .before .before .before .args in
+    let y = counted-inside _ _ _ _ (a .status) _ _ (c .before .before .before .before .before .pre) (subst (λ (k : ℕ). k < 3) (got (c .before)) (c .if1 .taken)) in
+    (subst (λ (z : ℤ). Inside (a .flow-held) z (a .press)) (sym (toZ-ofZ (c .before .before .before .before .before .fits .temp))) (y .0), omega (arith, y .1))
 
--- src/lib.rt:96:1
 returns : tie.Need-returns
 returns c = let a = c .before .before .before .before .before .before .args in counted-entry _ _ _ _ _ _ _ _ (got (c .before .before)) (c .before .if1 .taken) _
     (c .methane-litres .ensures .0 ∙ ap (λ (z : ℤ). methaneLitres (a .flow-held) (a .content-held) z (a .press)) (toZ-ofZ (c .before .before .before .before .before .before .fits .temp)))
 
--- src/lib.rt:96:1
 returns-2 : tie.Need-returns-2
 returns-2 c = excluded-entry _ _ _ _ _ _ _ _ (got (c .before)) (c .if1 .left)
 
