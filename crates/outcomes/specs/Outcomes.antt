@@ -3,14 +3,14 @@
 use Prim.Native.Nat.{ℕ, _+_, _-_, _≤_, _<_}
 use mathlib.Core.Path.{_≡_, refl}
 use mathlib.Core.Bool.{Bool, true, false}
-use mathlib.Core.List.{List, [], _∷_}
+use mathlib.Core.List.{List}
 use lib.Dec.{eqb, ltb}
 use lib.IntN.{ℤ, pos}
 use lib.ListN.{length, getD}
 use Rattle.rows.specs.Rows.{pick, both, either, build, sumTo, countOf}
 use Rattle.protocol.specs.Ranges.{mark, tempMissing, pressMissing, tempRight, pressRight, flowMost, contentMost}
 use Rattle.volume.specs.Volume.{methaneLitres}
-use Rattle.runs.specs.Runs.{missingAt, excluding}
+use Rattle.runs.specs.Runs.{excluding}
 use Rattle.outcomes.specs.declared.Entry.{Entry}
 use Rattle.outcomes.specs.declared.Sums.{Sums}
 

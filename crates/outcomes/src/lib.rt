@@ -134,7 +134,7 @@ pub fn settle(
 }
 
 // Every interval's outcome and values used, in place of what the rows held. Ruled out: a count that is not counted; a row
-// left as it was.
+// left as it was after its first entry.
 pub fn finish(
     flow: &[u16],
     content: &[u16],
