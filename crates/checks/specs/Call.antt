@@ -1,0 +1,27 @@
+-- What is lent to quantification, whole: the contracts above speak of one call.
+-- Assumes nothing.
+use Prim.Native.Nat.{ℕ, _+_, _*_}
+use mathlib.Core.List.{List}
+use lib.IntN.{ℤ}
+
+-- "N quarter-hour intervals", "D devices", the mine; each device's kind, check counts (flow, then CH4), and 64 places for the
+-- positions and drifts of its checks, flow's 32 first; the five series of D rows of N entries, "device 0 first"; the fuel
+-- lines; and the three lent result rows as they are at entry
+pub record Call : Type 0 where
+  pub intervals : ℕ
+  pub devices : ℕ
+  pub mine : ℕ
+  pub kinds : List ℕ
+  pub counts : List ℕ
+  pub places : List ℕ
+  pub drifts : List ℤ
+  pub flow : List ℕ
+  pub content : List ℕ
+  pub temp : List ℤ
+  pub press : List ℕ
+  pub status : List ℕ
+  pub quantity : List ℕ
+  pub factor : List ℕ
+  pub outcome-row : List ℕ
+  pub flow-row : List ℕ
+  pub content-row : List ℕ

@@ -1,0 +1,177 @@
+-- "Refusal numbers, in order of test": one ordered list of checks. The order, the conditions and the places are read off it,
+-- and a later number is one entry more. Only 1 to 9 belong to quantification.
+-- Assumes nothing.
+use Prim.Native.Nat.{ℕ, zero, suc, _+_, _-_, _*_, _/_, _%_, _≤_, _<_}
+use mathlib.Core.Path.{_≡_, refl}
+use mathlib.Core.Bool.{Bool, true, false, not}
+use mathlib.Core.List.{List, [], _∷_}
+use lib.Dec.{eqb, ltb, leb}
+use lib.IntN.{ℤ, pos}
+use lib.ListN.{length, getD}
+use Rattle.rows.specs.Rows.{pick, both, either, first}
+use Rattle.protocol.specs.Kinds.{isKind, isMine, misplaced}
+use Rattle.protocol.specs.Ranges.{flowRight, contentRight, tempRight, pressRight, statusRight, driftRight}
+use Rattle.checks.specs.Call.{Call}
+use Rattle.checks.specs.declared.Refusal.{Refusal}
+use Rattle.checks.specs.declared.Refusal.the-variants.{Intervals, Devices, Lengths, Mine, Kind, Misplaced, Check, Reading, Fuel}
+use Rattle.checks.specs.declared.Verdict.{Verdict}
+use Rattle.checks.specs.declared.Verdict.the-variants.{Clean, Refused}
+
+-- document 01's number of each refusal, and "the device and the place of the first offender"; 0 where it names none
+abbrev pub numberOf : Refusal → ℕ
+numberOf Intervals = 1
+numberOf Devices = 2
+numberOf Lengths = 3
+numberOf Mine = 4
+numberOf (Kind device) = 5
+numberOf (Misplaced device) = 6
+numberOf (Check device place) = 7
+numberOf (Reading device interval) = 8
+numberOf (Fuel place) = 9
+
+abbrev pub deviceOf : Refusal → ℕ
+deviceOf Intervals = 0
+deviceOf Devices = 0
+deviceOf Lengths = 0
+deviceOf Mine = 0
+deviceOf (Kind device) = device
+deviceOf (Misplaced device) = device
+deviceOf (Check device place) = device
+deviceOf (Reading device interval) = device
+deviceOf (Fuel place) = 0
+
+abbrev pub placeOf : Refusal → ℕ
+placeOf Intervals = 0
+placeOf Devices = 0
+placeOf Lengths = 0
+placeOf Mine = 0
+placeOf (Kind device) = 0
+placeOf (Misplaced device) = 0
+placeOf (Check device place) = place
+placeOf (Reading device interval) = interval
+placeOf (Fuel place) = place
+
+-- a check looks at so many things, in order; a bad one is refused by what names it
+pub record Step : Type 0 where
+  pub size : ℕ
+  pub bad : ℕ → Bool
+  pub refusal : ℕ → Refusal
+
+-- the first thing that a step finds bad, or its size
+abbrev pub offender : Step → ℕ
+offender s = first (s .size) (s .bad)
+
+-- "The lowest number that applies is given, and none otherwise", with its first offender
+unfoldable pub verdictOf : List Step → Verdict
+verdictOf [] = Clean
+verdictOf (s ∷ ss) = pick (ltb (offender s) (s .size)) (Refused (s .refusal (offender s))) (verdictOf ss)
+
+-- ---- the nine steps
+
+-- "1 | N outside its limits": 1 to 35,136
+unfoldable pub intervalsStep : Call → Step
+intervalsStep c = record { size = 1; bad = λ k. not (both (leb 1 (c .intervals)) (leb (c .intervals) 35136)); refusal = λ k. Intervals }
+
+-- "2 | D outside its limits": 1 to 16
+unfoldable pub devicesStep : Call → Step
+devicesStep c = record { size = 1; bad = λ k. not (both (leb 1 (c .devices)) (leb (c .devices) 16)); refusal = λ k. Devices }
+
+-- "3 | a lent slice, result rows included, isn't exactly as long as N and D ask, or the fuel slices differ": the lengths
+unfoldable pub lengthsOf : Call → List ℕ
+lengthsOf c =
+    length (c .kinds) ∷ length (c .counts) ∷ length (c .places) ∷ length (c .drifts)
+    ∷ length (c .flow) ∷ length (c .content) ∷ length (c .temp) ∷ length (c .press) ∷ length (c .status)
+    ∷ length (c .outcome-row) ∷ length (c .flow-row) ∷ length (c .content-row) ∷ length (c .factor) ∷ []
+
+-- and what they are to be
+unfoldable pub wantedOf : Call → List ℕ
+wantedOf c =
+    let d : ℕ = c .devices in
+    let rows : ℕ = c .devices * c .intervals in
+    d ∷ 2 * d ∷ 64 * d ∷ 64 * d ∷ rows ∷ rows ∷ rows ∷ rows ∷ rows ∷ rows ∷ rows ∷ rows ∷ length (c .quantity) ∷ []
+
+unfoldable pub lengthsStep : Call → Step
+lengthsStep c =
+    record { size = 13; bad = λ k. not (eqb (getD (lengthsOf c) k 0) (getD (wantedOf c) k 0)); refusal = λ k. Lengths }
+
+-- "4 | mine not 0 or 1"
+unfoldable pub mineStep : Call → Step
+mineStep c = record { size = 1; bad = λ k. not (isMine (c .mine)); refusal = λ k. Mine }
+
+-- "5 | kind not 1..6"
+unfoldable pub kindsStep : Call → Step
+kindsStep c = record { size = c .devices; bad = λ d. not (isKind (getD (c .kinds) d 0)); refusal = λ d. Kind d }
+
+-- "6 | kind 6 underground"
+unfoldable pub misplacedStep : Call → Step
+misplacedStep c = record { size = c .devices; bad = λ d. misplaced (c .mine) (getD (c .kinds) d 0); refusal = λ d. Misplaced d }
+
+-- "7 | a check count, position or drift is wrong". Instrument g of all, flow before CH4 and device 0 first, has its 32 places
+-- from 32 g on. Check j of it: "a position 0..N", "a drift in 0.01 %, -9,000..20,000", "Positions strictly increase", and "of
+-- two positions that don't increase the later" offends.
+unfoldable pub wrongCheck : ℕ → List ℕ → List ℤ → ℕ → ℕ → Bool
+wrongCheck intervals places drifts g j =
+    either (ltb intervals (getD places (32 * g + j) 0))
+    (either (not (driftRight (getD drifts (32 * g + j) (pos 0))))
+    (both (ltb 0 j) (leb (getD places (32 * g + j) 0) (getD places (32 * g + (j - 1)) 0))))
+
+-- An instrument has 33 things to look at, "a wrong count before its entries": thing 0 is its count, "0 to 32"; thing j + 1 is
+-- check j, and "places past the count are ignored".
+unfoldable pub wrongThing : ℕ → List ℕ → List ℕ → List ℤ → ℕ → ℕ → Bool
+wrongThing intervals counts places drifts g zero = ltb 32 (getD counts g 0)
+wrongThing intervals counts places drifts g (suc j) = both (ltb j (getD counts g 0)) (wrongCheck intervals places drifts g j)
+
+-- "The place is .. the check .. entry .. (32 .. for a count)"
+abbrev pub checkPlace : ℕ → ℕ
+checkPlace zero = 32
+checkPlace (suc j) = j
+
+unfoldable pub checksStep : Call → Step
+checksStep c =
+    record {
+      size = c .devices * 66;
+      bad = λ k. wrongThing (c .intervals) (c .counts) (c .places) (c .drifts) (k / 33) (k % 33);
+      refusal = λ k. Check (k / 66) (checkPlace (k % 33));
+    }
+
+-- "8 | a reading is neither in range nor its missing mark": the five series of one device-interval
+unfoldable pub wrongReading : List ℕ → List ℕ → List ℤ → List ℕ → List ℕ → ℕ → Bool
+wrongReading flow content temp press status k =
+    not (both (flowRight (getD flow k 0))
+    (both (contentRight (getD content k 0))
+    (both (tempRight (getD temp k (pos 0)))
+    (both (pressRight (getD press k 0))
+    (statusRight (getD status k 0))))))
+
+unfoldable pub readingsStep : Call → Step
+readingsStep c =
+    record {
+      size = c .devices * c .intervals;
+      bad = wrongReading (c .flow) (c .content) (c .temp) (c .press) (c .status);
+      refusal = λ k. Reading (k / c .intervals) (k % c .intervals);
+    }
+
+-- "9 | over 64 fuel lines, or a number outside its range": thing 0 is their count, thing j + 1 is line j, "quantity in
+-- thousandths of a unit 0..1,000,000,000 and factor in grams CO2 per unit 0..4,000,000"
+unfoldable pub wrongFuel : List ℕ → List ℕ → ℕ → Bool
+wrongFuel quantity factor zero = ltb 64 (length quantity)
+wrongFuel quantity factor (suc j) = either (ltb 1000000000 (getD quantity j 0)) (ltb 4000000 (getD factor j 0))
+
+-- "The place is .. the .. fuel entry .. (.. 64 for a count)"
+abbrev pub fuelPlace : ℕ → ℕ
+fuelPlace zero = 64
+fuelPlace (suc j) = j
+
+unfoldable pub fuelsStep : Call → Step
+fuelsStep c =
+    record { size = 1 + length (c .quantity); bad = wrongFuel (c .quantity) (c .factor); refusal = λ k. Fuel (fuelPlace k) }
+
+-- the order of test
+abbrev pub stepsOf : Call → List Step
+stepsOf c =
+    intervalsStep c ∷ devicesStep c ∷ lengthsStep c ∷ mineStep c ∷ kindsStep c ∷ misplacedStep c ∷ checksStep c ∷ readingsStep c
+    ∷ fuelsStep c ∷ []
+
+-- what quantification answers before it looks at any value: nothing is wrong, or the first refusal
+unfoldable pub judge : Call → Verdict
+judge c = verdictOf (stepsOf c)
