@@ -1,0 +1,131 @@
+-- One device's row: from its records to its outcomes, its values used and its account. Nothing else can influence them: every
+-- definition here takes that device's records only.
+-- Assumes nothing.
+use Prim.Native.Nat.{ℕ, _+_, _-_, _*_, _≤_, _<_}
+use mathlib.Core.Path.{_≡_, refl}
+use mathlib.Core.Bool.{Bool, true, false}
+use mathlib.Core.List.{List, [], _∷_}
+use lib.IntN.{ℤ, pos}
+use lib.ListN.{length, getD}
+use Rattle.rows.specs.Rows.{pick, either, build, sumTo, countOf, cut}
+use Rattle.protocol.specs.Ranges.{mark, tempMissing, pressMissing, flowRight, contentRight, tempRight, pressRight, statusRight}
+use Rattle.drift.specs.Drift.{Instrument, correctedAt, Ordered}
+use Rattle.runs.specs.Runs.{missingAt}
+use Rattle.gaps.specs.Gaps.{replacementAt}
+use Rattle.gaps.specs.declared.Replacement.{Replacement}
+use Rattle.gaps.specs.declared.Replacement.the-variants.{Value, TooLong, NotWhole}
+use Rattle.outcomes.specs.Outcomes.{outcomes, outcomeOf, counted, usedFor, litresFor}
+use Rattle.balance.specs.Balance.{destroyedOf, uncombustedOf}
+use Rattle.device.specs.declared.Account.{Account}
+
+-- one device's records: its rows of the five series, its two check counts, flow instrument first, its 64 places for
+-- positions and for drifts, and its kind
+pub record Records : Type 0 where
+  pub kind : ℕ
+  pub flow : List ℕ
+  pub content : List ℕ
+  pub temp : List ℤ
+  pub press : List ℕ
+  pub status : List ℕ
+  pub counts : List ℕ
+  pub places : List ℕ
+  pub drifts : List ℤ
+
+abbrev pub intervalsOf : Records → ℕ
+intervalsOf r = length (r .flow)
+
+-- "each device has a flow instrument, then a CH4 instrument": 0 and 1
+unfoldable pub instrumentOf : Records → ℕ → Instrument
+instrumentOf r g =
+    record {
+      count = getD (r .counts) g 0;
+      places = cut (r .places) (32 * g) (32 * g + 32);
+      drifts = cut (r .drifts) (32 * g) (32 * g + 32);
+    }
+
+-- "This precedes replacement": each series with its drift taken out
+unfoldable pub correctedFlow : Records → List ℕ
+correctedFlow r = build (intervalsOf r) (correctedAt (instrumentOf r 0) (r .flow))
+
+unfoldable pub correctedContent : Records → List ℕ
+correctedContent r = build (intervalsOf r) (correctedAt (instrumentOf r 1) (r .content))
+
+-- the outcome of an interval whose reading is missing: the replacement's, or "8 that gap has 673 or more; 9 its window isn't
+-- whole"
+abbrev pub replacedAs : ℕ → Replacement → ℕ
+replacedAs outcome (Value v) = outcome
+replacedAs outcome TooLong = 8
+replacedAs outcome NotWhole = 9
+
+-- "Outcome, the first that applies"
+unfoldable pub outcomeAt : Records → ℕ → ℕ
+outcomeAt r i =
+    outcomeOf (getD (r .status) i 0)
+    (either (tempMissing (getD (r .temp) i (pos 0))) (pressMissing (getD (r .press) i 0)))
+    (missingAt (r .flow) i)
+    (missingAt (r .content) i)
+    (replacedAs 1 (replacementAt (r .flow) (correctedFlow r) i))
+    (replacedAs 2 (replacementAt (r .content) (correctedContent r) i))
+
+abbrev pub valueOf : Replacement → ℕ
+valueOf (Value v) = v
+valueOf TooLong = 0
+valueOf NotWhole = 0
+
+-- a series' value for an interval: measured, with its drift taken out, or replaced
+unfoldable pub valueAt : List ℕ → List ℕ → ℕ → ℕ
+valueAt reading corrected i =
+    pick (missingAt reading i) (valueOf (replacementAt reading corrected i)) (getD corrected i mark)
+
+-- "The three output rows hold outcome, flow used and CH4 used; excluded intervals hold 0 for both values"
+unfoldable pub flowUsedAt : Records → ℕ → ℕ
+flowUsedAt r i = usedFor (outcomeAt r i) (valueAt (r .flow) (correctedFlow r) i)
+
+unfoldable pub contentUsedAt : Records → ℕ → ℕ
+contentUsedAt r i = usedFor (outcomeAt r i) (valueAt (r .content) (correctedContent r) i)
+
+-- the methane litres of an interval
+unfoldable pub litresAt : Records → ℕ → ℕ
+litresAt r i =
+    litresFor (outcomeAt r i) (flowUsedAt r i) (contentUsedAt r i) (getD (r .temp) i (pos 0)) (getD (r .press) i 0)
+
+-- "Q = their sum"
+unfoldable pub methaneOf : Records → ℕ
+methaneOf r = sumTo (intervalsOf r) (litresAt r)
+
+-- "the account of a device holds ten counts, one for each outcome", beside its litres
+unfoldable pub accountOf : Records → Account
+accountOf r =
+    record {
+      counts = build outcomes (countOf (intervalsOf r) (outcomeAt r));
+      methane = methaneOf r;
+      destroyed = destroyedOf (r .kind) (methaneOf r);
+      uncombusted = uncombustedOf (r .kind) (methaneOf r);
+    }
+
+-- every reading that is not missing is at most b
+pub record Low (reading : List ℕ) (b : ℕ) : Type 0 where
+  pub low : (i : ℕ) → missingAt reading i ≡ false → getD reading i mark ≤ b
+
+-- what refusals 1 to 8 leave: rows of one length, checks in order, every reading in range or missing
+pub record Right (r : Records) : Type 0 where
+  pub few : intervalsOf r ≤ 35136
+  pub contents : length (r .content) ≡ intervalsOf r
+  pub temps : length (r .temp) ≡ intervalsOf r
+  pub presses : length (r .press) ≡ intervalsOf r
+  pub statuses : length (r .status) ≡ intervalsOf r
+  pub counts-two : length (r .counts) ≡ 2
+  pub places-kept : length (r .places) ≡ 64
+  pub drifts-kept : length (r .drifts) ≡ 64
+  pub ordered : (g : ℕ) → g < 2 → Ordered (instrumentOf r g) (intervalsOf r)
+  pub flow-right : (i : ℕ) → i < intervalsOf r → flowRight (getD (r .flow) i 0) ≡ true
+  pub content-right : (i : ℕ) → i < intervalsOf r → contentRight (getD (r .content) i 0) ≡ true
+  pub temp-right : (i : ℕ) → i < intervalsOf r → tempRight (getD (r .temp) i (pos 0)) ≡ true
+  pub press-right : (i : ℕ) → i < intervalsOf r → pressRight (getD (r .press) i 0) ≡ true
+
+-- the three rows and the account that the definitions build
+pub record Filled (r : Records) (outcomeRow flowRow contentRow : List ℕ) (a : Account) : Type 0 where
+  pub outcome-row : outcomeRow ≡ build (intervalsOf r) (outcomeAt r)
+  pub flow-row : flowRow ≡ build (intervalsOf r) (flowUsedAt r)
+  pub content-row : contentRow ≡ build (intervalsOf r) (contentUsedAt r)
+  pub account : a ≡ accountOf r
