@@ -18,7 +18,7 @@ use Rattle.window.specs.Window.{tallyOf, meanOf, limitOf, z90, z95, Low, Window
 use Rattle.window.specs.declared.Tally.{Tally}
 use Rattle.window.proofs.Laws.{tally-most, mean-most, limit-most, low-append}
 use Rattle.runs.specs.Runs.{missingAt, gapStart, gapEnd, whole, excluding}
-use Rattle.runs.proofs.Laws.{whole-before, whole-after}
+use Rattle.runs.proofs.Laws.{whole-before, whole-after, start-least}
 use Rattle.gaps.specs.Gaps.{widthOf, ruleOf, windowValues, replacementOf, replacementAt, heldFor, filledAt, Goes}
 use Rattle.gaps.specs.declared.Replacement.{Replacement}
 use Rattle.gaps.specs.declared.Replacement.the-variants.{Value, TooLong, NotWhole}
@@ -173,3 +173,27 @@ value-most reading corrected a e b h r g =
     (low-append b (cut corrected (a - w) a) (cut corrected e (e + w))
     (low-before reading a e w h corrected b (width-some (e - a)) r g)
     (low-after reading a e w h corrected b (width-some (e - a)) r g)))
+
+-- the same of an interval's replacement
+pub replacement-most : (reading corrected : List ℕ) (i b : ℕ) → i < length reading → Goes reading corrected b
+    → (v : ℕ) → replacementAt reading corrected i ≡ Value v → v ≤ b
+unfolding replacementAt replacementOf
+replacement-most reading corrected i b l g v e =
+    go (leb 673 (y - x)) (whole reading x y (widthOf (y - x))) refl (unfolded ∙ e)
+  where
+    x : ℕ
+    x = gapStart reading i
+
+    y : ℕ
+    y = gapEnd reading i
+
+    go : (p q : Bool) → whole reading x y (widthOf (y - x)) ≡ q
+        → pick p TooLong (pick q (Value (ruleOf (y - x) (tallyOf (windowValues corrected x y (widthOf (y - x)))))) NotWhole) ≡ Value v → v ≤ b
+    go true q f z = let w : _≡_ {A = ℕ} 0 1 = cc in absurd (let n : ⊥ = omega arith in n)
+    go false true f z =
+        let same : ruleOf (y - x) (tallyOf (windowValues corrected x y (widthOf (y - x)))) ≡ v = cc in
+        subst (λ (m : ℕ). m ≤ b) same (value-most reading corrected x y b f (let n = start-least reading i in omega arith) g)
+    go false false f z = let w : _≡_ {A = ℕ} 0 1 = cc in absurd (let n : ⊥ = omega arith in n)
+
+    unfolded : pick (leb 673 (y - x)) TooLong (pick (whole reading x y (widthOf (y - x))) (Value (ruleOf (y - x) (tallyOf (windowValues corrected x y (widthOf (y - x)))))) NotWhole) ≡ replacementOf reading corrected x y
+    unfolded = refl

@@ -143,7 +143,7 @@ of-gap row a k l h m =
 
 -- ---- the one gap around a missing interval
 
-start-least : (row : List ℕ) (i : ℕ) → gapStart row i ≤ i
+pub start-least : (row : List ℕ) (i : ℕ) → gapStart row i ≤ i
 unfolding gapStart
 start-least row zero = le-refl 0
 start-least row (suc i) = go (start-least row i) (missingAt row i)
