@@ -71,7 +71,7 @@ value-grows : (a : ℕ) (xs : List ℕ) → a ≤ value a xs
 value-grows a [] = omega arith
 value-grows a (x ∷ xs) = omega (arith, value-grows (10 * a + (x - 48)) xs)
 
-value-take : (n a : ℕ) (xs : List ℕ) → value a (take n xs) ≤ value a xs
+pub value-take : (n a : ℕ) (xs : List ℕ) → value a (take n xs) ≤ value a xs
 value-take zero a xs = value-grows a xs
 value-take (suc n) a [] = omega arith
 value-take (suc n) a (x ∷ xs) = value-take n (10 * a + (x - 48)) xs
@@ -96,9 +96,10 @@ pub record Digits (v : ℕ) : Type 0 where
 
 digits-one : (v : ℕ) → v < 10 → Digits v
 digits-one v h = record {
-    some = rw (dec-one v h) (omega arith);
-    each = λ i hi. at i (rw (dec-one v h) at hi);
-    first = λ e. omega (arith, rw (dec-one v h) at e) }
+  some = rw (dec-one v h) (omega arith);
+  each = λ i hi. at i (rw (dec-one v h) at hi);
+  first = λ e. omega (arith, rw (dec-one v h) at e);
+}
   where
     at : (i : ℕ) → i < 1 → Digit (getD (dec v) i 0)
     at zero hi = rw (dec-one v h) (record { low = omega arith; high = omega arith })
@@ -106,12 +107,14 @@ digits-one v h = record {
 
 digits-more : (v : ℕ) → 10 ≤ v → Digits (v / 10) → Digits v
 digits-more v h p = record {
-    some = rw (dec-more v h, length-append) (omega (arith, p .some));
-    each = λ i hi. rw (dec-more v h) (at i (rw (dec-more v h, length-append) at hi));
-    first = λ e. zero-not (p .first (sym (List·getD-append (dec (v / 10)) _ 0 0 (p .some)) ∙ (rw (dec-more v h) at e))) }
+  some = rw (dec-more v h, length-append) (omega (arith, p .some));
+  each = λ i hi. rw (dec-more v h) (at i (rw (dec-more v h, length-append) at hi));
+  first = λ e. zero-not (p .first (sym (List·getD-append (dec (v / 10)) _ 0 0 (p .some)) ∙ (rw (dec-more v h) at e)));
+}
   where
     zero-not : v / 10 ≡ 0 → v ≡ 0
     zero-not e = absurd (omega arith)
+
     at : (i : ℕ) → i < length (dec (v / 10)) + 1 → Digit (getD (dec (v / 10) ++ ((48 + v % 10) ∷ [])) i 0)
     at i hi =
         ⊎-elim (λ s. rw (List·getD-append (dec (v / 10)) ((48 + v % 10) ∷ []) 0 i s) (p .each i s))
@@ -136,30 +139,37 @@ module _ (w v c e : ℕ) (r s : List ℕ) (he : e < 48) (eq : dec w ++ (e ∷ s)
   shorter h =
       let d : Digit (getD (dec v) (length (dec w)) 0) = digits v .each _ h in
       let k : getD (dec v) (length (dec w)) 0 ≡ e =
-          sym (List·getD-append (dec v) (c ∷ r) 0 _ h) ∙ ap (λ (l : List ℕ). getD l (length (dec w)) 0) (sym eq) ∙ getD-append-seam (dec w) e s 0
+      sym (List·getD-append (dec v) (c ∷ r) 0 _ h) ∙ ap (λ (l : List ℕ). getD l (length (dec w)) 0) (sym eq) ∙ getD-append-seam (dec w) e s 0
       in omega arith
 
   equal : length (dec v) ≡ length (dec w) → (w ≡ v) × (c ≡ e)
-  equal h =
-      (dec-inj w v
-      (sym (take-append-seam (dec w) (e ∷ s)) ∙ ap (λ (n : ℕ). take n (dec w ++ (e ∷ s))) (sym h)
-      ∙ ap (take (length (dec v))) eq ∙ take-append-seam (dec v) (c ∷ r)),
-      sym (getD-append-seam (dec v) c r 0) ∙ ap (λ (l : List ℕ). getD l (length (dec v)) 0) (sym eq) ∙ getD-at (dec w) e s 0 _ (sym h))
+  equal h = (
+    dec-inj w v
+        (sym (take-append-seam (dec w) (e ∷ s)) ∙ ap (λ (n : ℕ). take n (dec w ++ (e ∷ s))) (sym h)
+        ∙ ap (take (length (dec v))) eq ∙ take-append-seam (dec v) (c ∷ r)),
+    sym (getD-append-seam (dec v) c r 0) ∙ ap (λ (l : List ℕ). getD l (length (dec v)) 0) (sym eq) ∙ getD-at (dec w) e s 0 _ (sym h),
+  )
 
   longer : length (dec v) < length (dec w) → Digit c × (0 < v) × (10 * v + (c - 48) ≤ w)
   longer h =
       let there : getD (dec w) (length (dec v)) 0 ≡ c = in-left _ h ∙ getD-append-seam (dec v) c r 0 in
       let head : take (length (dec v)) (dec w) ≡ dec v =
-          sym (take-append-le (length (dec v)) (dec w) (e ∷ s) (omega arith)) ∙ ap (take (length (dec v))) eq ∙ take-append-seam (dec v) (c ∷ r)
+      sym (take-append-le (length (dec v)) (dec w) (e ∷ s) (omega arith)) ∙ ap (take (length (dec v))) eq ∙ take-append-seam (dec v) (c ∷ r)
       in
       let more : take (suc (length (dec v))) (dec w) ≡ dec v ++ (c ∷ []) =
-          take-suc (dec w) (length (dec v)) 0 h ∙ ap (λ (l : List ℕ). l ++ (getD (dec w) (length (dec v)) 0 ∷ [])) head
-          ∙ ap (λ (x : ℕ). dec v ++ (x ∷ [])) there
+      take-suc (dec w) (length (dec v)) 0 h ∙ ap (λ (l : List ℕ). l ++ (getD (dec w) (length (dec v)) 0 ∷ [])) head
+      ∙ ap (λ (x : ℕ). dec v ++ (x ∷ [])) there
       in
       let total : 10 * v + (c - 48) ≤ w =
-          omega
-          (arith, value-take (suc (length (dec v))) 0 (dec w), ap (value 0) more, value-append 0 (dec v) (c ∷ []), value-dec v, value-dec w,
-          ap (λ (n : ℕ). 10 * n + (c - 48)) (value-dec v))
+      omega (
+        arith,
+        value-take (suc (length (dec v))) 0 (dec w),
+        ap (value 0) more,
+        value-append 0 (dec v) (c ∷ []),
+        value-dec v,
+        value-dec w,
+        ap (λ (n : ℕ). 10 * n + (c - 48)) (value-dec v),
+      )
       in
       (rw there at (digits w .each _ h), positive h, total)
     where
@@ -170,7 +180,7 @@ module _ (w v c e : ℕ) (r s : List ℕ) (he : e < 48) (eq : dec w ++ (e ∷ s)
           not-zero z =
               let one : dec v ≡ 48 ∷ [] = ap dec z ∙ dec-one 0 (omega arith) in
               let w0 : w ≡ 0 =
-                  digits w .first (in-left 0 (digits w .some) ∙ ap (λ (l : List ℕ). getD (l ++ (c ∷ r)) 0 0) one)
+              digits w .first (in-left 0 (digits w .some) ∙ ap (λ (l : List ℕ). getD (l ++ (c ∷ r)) 0 0) one)
               in
               let both : length (dec w) ≡ length (dec v) = ap length (ap dec (w0 ∙ sym z)) in
               omega arith

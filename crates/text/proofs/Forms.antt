@@ -19,11 +19,12 @@ cancel a x y e = sym (drop-append-seam a x) ∙ ap (drop (length a)) e ∙ drop-
 pub splits : (a b p q : List ℕ) → a ++ b ≡ p ++ q → length p ≤ length a → (m : List ℕ) × (a ≡ p ++ m) × (m ++ b ≡ q)
 splits a b p q e h =
     let front : take (length p) a ≡ p =
-        sym (take-append-le (length p) a b h) ∙ ap (take (length p)) e ∙ take-append-seam p q
-    in
-    (drop (length p) a,
-    sym (take-append-drop (length p) a) ∙ ap (λ (l : List ℕ). l ++ drop (length p) a) front,
-    sym (drop-append-le (length p) a b h) ∙ ap (drop (length p)) e ∙ drop-append-seam p q)
+    sym (take-append-le (length p) a b h) ∙ ap (take (length p)) e ∙ take-append-seam p q
+    in (
+      drop (length p) a,
+      sym (take-append-drop (length p) a) ∙ ap (λ (l : List ℕ). l ++ drop (length p) a) front,
+      sym (drop-append-le (length p) a b h) ∙ ap (drop (length p)) e ∙ drop-append-seam p q,
+    )
 
 pub take-grows : (t : List ℕ) (j k : ℕ) → j ≤ k → (m : List ℕ) × (take k t ≡ take j t ++ m)
 take-grows t j k h =
@@ -55,10 +56,11 @@ stands-join t i j k v w s r =
 -- Of two parts from one place, the one that stops later begins with the other.
 pub stands-grows : (t : List ℕ) (i j k : ℕ) (v w : List ℕ) → Stands t i j v → Stands t i k w → j ≤ k → (m : List ℕ) × (w ≡ v ++ m)
 stands-grows t i j k v w s r h =
-    let g : (m : List ℕ) × (take k t ≡ take j t ++ m) = take-grows t j k h in
-    (g .0,
-    cancel (take i t) w (v ++ g .0)
-    (sym (r .is) ∙ g .1 ∙ ap (λ (l : List ℕ). l ++ g .0) (s .is) ∙ append-assoc (take i t) v (g .0)))
+    let g : (m : List ℕ) × (take k t ≡ take j t ++ m) = take-grows t j k h in (
+      g .0,
+      cancel (take i t) w (v ++ g .0)
+          (sym (r .is) ∙ g .1 ∙ ap (λ (l : List ℕ). l ++ g .0) (s .is) ∙ append-assoc (take i t) v (g .0)),
+    )
 
 pub stands-length : (t : List ℕ) (i k : ℕ) (w : List ℕ) → Stands t i k w → i ≤ length t → k ≡ i + length w
 stands-length t i k w s h =
@@ -75,11 +77,11 @@ module _ {A : Type 0} (f : Form A) (free : Free f) where
   started-past p q m s o e =
       let w : Of f (p ++ (s .next ∷ s .rest)) = s .whole in
       let long : q ++ (m ++ (s .next ∷ s .rest)) ≡ f .text (w .value) =
-          sym (append-assoc q m (s .next ∷ s .rest)) ∙ ap (λ (l : List ℕ). l ++ (s .next ∷ s .rest)) (sym e) ∙ w .is
+      sym (append-assoc q m (s .next ∷ s .rest)) ∙ ap (λ (l : List ℕ). l ++ (s .next ∷ s .rest)) (sym e) ∙ w .is
       in
       let same : o .value ≡ w .value =
-          free .apart (o .value) (w .value) (m ++ (s .next ∷ s .rest)) [] (o .taken) (w .taken)
-          (ap (λ (l : List ℕ). l ++ (m ++ (s .next ∷ s .rest))) (sym (o .is)) ∙ long ∙ sym (append-nil (f .text (w .value))))
+      free .apart (o .value) (w .value) (m ++ (s .next ∷ s .rest)) [] (o .taken) (w .taken)
+      (ap (λ (l : List ℕ). l ++ (m ++ (s .next ∷ s .rest))) (sym (o .is)) ∙ long ∙ sym (append-nil (f .text (w .value))))
       in
       nonempty m (s .next) (s .rest)
       (cancel q (m ++ (s .next ∷ s .rest)) [] (long ∙ ap (f .text) (sym same) ∙ sym (o .is) ∙ sym (append-nil q)))
@@ -89,43 +91,46 @@ module _ {A : Type 0} (f : Form A) (free : Free f) where
     where
       o : Of f (f .text a)
       o = record { value = a; taken = r .taken; is = refl }
+
       before : stop ≤ k → ⊥
       before h =
           let g : (m : List ℕ) × (b .read ≡ f .text a ++ m) = stands-grows t i stop k (f .text a) (b .read) (r .stands) (b .stands) h in
           started-past (b .read) (f .text a) (g .0) (b .begins) o (g .1)
+
       past : k < stop → ⊥
       past h =
           let inside : k < length t = omega (arith, r .stands .within) in
           let g : (m : List ℕ) × (f .text a ≡ (b .read ++ (getD t k 0 ∷ [])) ++ m) =
-              stands-grows t i (suc k) stop (b .read ++ (getD t k 0 ∷ [])) (f .text a) (stands-one t i k (b .read) (b .stands) inside) (r .stands) h
+          stands-grows t i (suc k) stop (b .read ++ (getD t k 0 ∷ [])) (f .text a) (stands-one t i k (b .read) (b .stands) inside) (r .stands) h
           in
           b .ends inside (record { rest = g .0; whole = subst (Of f) (g .1) o })
 
   pub read-once : (t : List ℕ) (i p q : ℕ) (a b : A) → i ≤ length t → ReadAs f t i p a → ReadAs f t i q b → (a ≡ b) × (p ≡ q)
   read-once t i p q a b h r s =
       let e : f .text a ++ drop p t ≡ f .text b ++ drop q t =
-          cancel (take i t) (f .text a ++ drop p t) (f .text b ++ drop q t)
-          (sym (append-assoc (take i t) (f .text a) (drop p t)) ∙ ap (λ (l : List ℕ). l ++ drop p t) (sym (r .stands .is))
-          ∙ take-append-drop p t ∙ rest-of t q ∙ ap (λ (l : List ℕ). l ++ drop q t) (s .stands .is)
-          ∙ append-assoc (take i t) (f .text b) (drop q t))
+      cancel (take i t) (f .text a ++ drop p t) (f .text b ++ drop q t)
+      (sym (append-assoc (take i t) (f .text a) (drop p t)) ∙ ap (λ (l : List ℕ). l ++ drop p t) (sym (r .stands .is))
+      ∙ take-append-drop p t ∙ rest-of t q ∙ ap (λ (l : List ℕ). l ++ drop q t) (s .stands .is)
+      ∙ append-assoc (take i t) (f .text b) (drop q t))
       in
-      let same : a ≡ b = free .apart a b (drop p t) (drop q t) (r .taken) (s .taken) e in
-      (same,
-      stands-length t i p (f .text a) (r .stands) h ∙ ap (λ (c : A). i + length (f .text c)) same
-      ∙ sym (stands-length t i q (f .text b) (s .stands) h))
+      let same : a ≡ b = free .apart a b (drop p t) (drop q t) (r .taken) (s .taken) e in (
+        same,
+        stands-length t i p (f .text a) (r .stands) h ∙ ap (λ (c : A). i + length (f .text c)) same
+            ∙ sym (stands-length t i q (f .text b) (s .stands) h),
+      )
 
 -- A text breaks at one place only.
 broken-before : (L : List ℕ → Type 0) (t : List ℕ) (i j k : ℕ) → Broken L t i j → Broken L t i k → j < k → ⊥
 broken-before L t i j k b d h =
     let inside : j < length t = omega (arith, d .stands .within) in
     let g : (m : List ℕ) × (d .read ≡ (b .read ++ (getD t j 0 ∷ [])) ++ m) =
-        stands-grows t i (suc j) k (b .read ++ (getD t j 0 ∷ [])) (d .read) (stands-one t i j (b .read) (b .stands) inside) (d .stands) h
+    stands-grows t i (suc j) k (b .read ++ (getD t j 0 ∷ [])) (d .read) (stands-one t i j (b .read) (b .stands) inside) (d .stands) h
     in
     let w : L ((b .read ++ (getD t j 0 ∷ [])) ++ (g .0 ++ (d .begins .next ∷ d .begins .rest))) =
-        subst L
-        (ap (λ (l : List ℕ). l ++ (d .begins .next ∷ d .begins .rest)) (g .1)
-        ∙ append-assoc (b .read ++ (getD t j 0 ∷ [])) (g .0) (d .begins .next ∷ d .begins .rest))
-        (d .begins .whole)
+    subst L
+    (ap (λ (l : List ℕ). l ++ (d .begins .next ∷ d .begins .rest)) (g .1)
+    ∙ append-assoc (b .read ++ (getD t j 0 ∷ [])) (g .0) (d .begins .next ∷ d .begins .rest))
+    (d .begins .whole)
     in
     b .ends inside (record { rest = g .0 ++ (d .begins .next ∷ d .begins .rest); whole = w })
 

@@ -1,2 +1,4 @@
 pub mod Decimals
 pub mod Forms
+pub mod Numbers
+pub mod Writing

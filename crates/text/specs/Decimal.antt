@@ -33,6 +33,12 @@ abbrev pub Fit : Range → ℤ → Type 0
 Fit r (pos n) = (r .least ≤ n) × (n ≤ r .most)
 Fit r (negsuc n) = n < r .below
 
+abbrev pub plain : ℕ → ℕ → Range
+plain least most = record { least = least; most = most; below = 0 }
+
+abbrev pub signed : ℕ → ℕ → Range
+signed below most = record { least = 0; most = most; below = below }
+
 -- A number of the range, ended by a byte.
 abbrev pub number : Range → ℕ → Form ℤ
 number r end = record { text = λ z. decimal z ++ (end ∷ []); takes = Fit r }

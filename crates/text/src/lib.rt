@@ -1,13 +1,12 @@
 // Decimals and key=value lines, printed into a lent buffer and read from a text.
 // The records' and the sheet's texts are made of these parts; what a form is and what a refusal means is in specs/Form.antt.
-ghost use Prim.Native.Nat.{ℕ, _+_, _^_, _≤_, _<_};
+ghost use Prim.Native.Nat.{_+_, _^_, _≤_, _<_};
 ghost use mathlib.Core.Path.{_≡_};
 ghost use lib.ListN.{length, set};
-ghost use lib.Seq.{sets};
 ghost use lib.IntN.{pos};
-ghost use Rattle.text.specs.Decimal.{dec, decimal, number};
+ghost use Rattle.text.specs.Decimal.{dec, decimal, number, plain, signed};
 ghost use Rattle.text.specs.Line.{lineOf, line};
-ghost use Rattle.text.specs.Answer.{NaturalIn, WholeIn, Matched};
+ghost use Rattle.text.specs.Answer.{Put, NaturalIn, WholeIn, Matched, DigitOf, Asked, AskedSigned};
 
 // An unsigned number and the place after it, or the place of the first byte that cannot stand there.
 pub enum Natural {
@@ -33,7 +32,7 @@ fn put(buf: &mut [u8], at: usize, b: u8)
 // Writes the bytes of w from `at`, and gives the place after them.
 pub fn put_bytes(buf: &mut [u8], at: usize, w: &[u8]) -> usize
     requires { ⌜ at + length (now w) < 2 ^ 64 ⌝ }
-    ensures { λ r. ⌜ (r ≡ at + length (now (w .entry))) × (now (buf .exit) ≡ sets (now (buf .entry)) at (now (w .entry))) ⌝ }
+    ensures { λ r. ⌜ Put (now (buf .entry)) at (now (w .entry)) (now (buf .exit)) r ⌝ }
 {
     let mut i = 0;
     while i < w.len() {
@@ -46,7 +45,7 @@ pub fn put_bytes(buf: &mut [u8], at: usize, w: &[u8]) -> usize
 // Writes the digits of v from `at`, and gives the place after them.
 pub fn put_natural(buf: &mut [u8], at: usize, v: u64) -> usize
     requires { ⌜ at + length (dec v) < 2 ^ 64 ⌝ }
-    ensures { λ r. ⌜ (r ≡ at + length (dec v)) × (now (buf .exit) ≡ sets (now (buf .entry)) at (dec v)) ⌝ }
+    ensures { λ r. ⌜ Put (now (buf .entry)) at (dec v) (now (buf .exit)) r ⌝ }
 {
     if v < 10 {
         put(buf, at, 48 + (v as u8));
@@ -61,7 +60,7 @@ pub fn put_natural(buf: &mut [u8], at: usize, v: u64) -> usize
 // Writes z, with a minus where it is negative.
 pub fn put_whole(buf: &mut [u8], at: usize, z: i64) -> usize
     requires { ⌜ at + length (decimal z) < 2 ^ 64 ⌝ }
-    ensures { λ r. ⌜ (r ≡ at + length (decimal z)) × (now (buf .exit) ≡ sets (now (buf .entry)) at (decimal z)) ⌝ }
+    ensures { λ r. ⌜ Put (now (buf .entry)) at (decimal z) (now (buf .exit)) r ⌝ }
 {
     if z < 0 {
         put(buf, at, 45);
@@ -69,4 +68,146 @@ pub fn put_whole(buf: &mut [u8], at: usize, z: i64) -> usize
     } else {
         put_natural(buf, at, z as u64)
     }
+}
+
+// Writes a line: the key, which ends with `=`, the number and byte 10.
+pub fn put_line(buf: &mut [u8], at: usize, key: &[u8], v: u64) -> usize
+    requires { ⌜ at + length (lineOf (now key) (pos v)) < 2 ^ 64 ⌝ }
+    ensures { λ r. ⌜ Put (now (buf .entry)) at (lineOf (now (key .entry)) (pos v)) (now (buf .exit)) r ⌝ }
+{
+    let p = put_bytes(buf, at, key);
+    let q = put_natural(buf, p, v);
+    put(buf, q, 10);
+    q + 1
+}
+
+// Writes a line with a signed number.
+pub fn put_signed_line(buf: &mut [u8], at: usize, key: &[u8], z: i64) -> usize
+    requires { ⌜ at + length (lineOf (now key) z) < 2 ^ 64 ⌝ }
+    ensures { λ r. ⌜ Put (now (buf .entry)) at (lineOf (now (key .entry)) z) (now (buf .exit)) r ⌝ }
+{
+    let p = put_bytes(buf, at, key);
+    let q = put_whole(buf, p, z);
+    put(buf, q, 10);
+    q + 1
+}
+
+// How many bytes of the key stand in t from `start`.
+pub fn matched(t: &[u8], start: usize, key: &[u8]) -> usize
+    requires { ⌜ start ≤ length (now t) ⌝ }
+    ensures { λ r. ⌜ Matched (now (t .entry)) start (now (key .entry)) r ⌝ }
+{
+    let mut i = 0;
+    while i < key.len() {
+        if start + i >= t.len() {
+            return i;
+        }
+        if t[start + i] != key[i] {
+            return i;
+        }
+        i += 1;
+    }
+    i
+}
+
+// The value of a digit, and 10 for any other byte.
+fn digit(b: u8) -> u64
+    ensures { λ r. ⌜ DigitOf b r ⌝ }
+{
+    if b < 48 {
+        return 10;
+    }
+    if b > 57 {
+        return 10;
+    }
+    (b - 48) as u64
+}
+
+// Reads an unsigned number from `least`, 0 or 1, to `most`, ended by the byte `end`, which is below the digits.
+// One reader for every width: the bounds say which. Rules out: 18446744073709551616 noticed after its last digit; 01 read as 1.
+pub fn read_natural(t: &[u8], start: usize, least: u64, most: u64, end: u8) -> Natural
+    requires { ⌜ Asked (now t) start least most end ⌝ }
+    ensures { λ r. ⌜ NaturalIn (number (plain least most) end) (now (t .entry)) start r ⌝ }
+{
+    if start >= t.len() {
+        return Natural::Wrong(start);
+    }
+    let first = digit(t[start]);
+    if first > 9 {
+        return Natural::Wrong(start);
+    }
+    if first < least {
+        return Natural::Wrong(start);
+    }
+    if first > most {
+        return Natural::Wrong(start);
+    }
+    let mut v = first;
+    let mut i = start + 1;
+    while i < t.len() {
+        if t[i] == end {
+            return Natural::Value(v, i + 1);
+        }
+        let d = digit(t[i]);
+        if d > 9 {
+            return Natural::Wrong(i);
+        }
+        if v == 0 {
+            return Natural::Wrong(i);
+        }
+        if d > most {
+            return Natural::Wrong(i);
+        }
+        if v > (most - d) / 10 {
+            return Natural::Wrong(i);
+        }
+        v = 10 * v + d;
+        i += 1;
+    }
+    Natural::Wrong(i)
+}
+
+// Reads a signed number from -`below` to `most`, ended by the byte `end`.
+// Rules out: -0 read as 0; -9223372036854775809 read at all.
+pub fn read_whole(t: &[u8], start: usize, below: u64, most: u64, end: u8) -> Whole
+    requires { ⌜ AskedSigned (now t) start below most end ⌝ }
+    ensures { λ r. ⌜ WholeIn (number (signed below most) end) (now (t .entry)) start r ⌝ }
+{
+    if start < t.len() {
+        if t[start] == 45 {
+            return match read_natural(t, start + 1, 1, below, end) {
+                Natural::Value(v, p) => Whole::Value(-1 - ((v - 1) as i64), p),
+                Natural::Wrong(k) => Whole::Wrong(k),
+            };
+        }
+    }
+    match read_natural(t, start, 0, most, end) {
+        Natural::Value(v, p) => Whole::Value(v as i64, p),
+        Natural::Wrong(k) => Whole::Wrong(k),
+    }
+}
+
+// Reads a line with an unsigned number. The key ends with `=`.
+// Rules out: a wrong key refused at the line's first byte; a value without byte 10 read.
+pub fn read_line(t: &[u8], start: usize, key: &[u8], least: u64, most: u64) -> Natural
+    requires { ⌜ Asked (now t) start least most 10 ⌝ }
+    ensures { λ r. ⌜ NaturalIn (line (now (key .entry)) (plain least most)) (now (t .entry)) start r ⌝ }
+{
+    let n = matched(t, start, key);
+    if n < key.len() {
+        return Natural::Wrong(start + n);
+    }
+    read_natural(t, start + n, least, most, 10)
+}
+
+// Reads a line with a signed number.
+pub fn read_signed_line(t: &[u8], start: usize, key: &[u8], below: u64, most: u64) -> Whole
+    requires { ⌜ AskedSigned (now t) start below most 10 ⌝ }
+    ensures { λ r. ⌜ WholeIn (line (now (key .entry)) (signed below most)) (now (t .entry)) start r ⌝ }
+{
+    let n = matched(t, start, key);
+    if n < key.len() {
+        return Whole::Wrong(start + n);
+    }
+    read_whole(t, start + n, below, most, 10)
 }
