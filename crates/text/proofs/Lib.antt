@@ -2,3 +2,4 @@ pub mod Decimals
 pub mod Forms
 pub mod Numbers
 pub mod Writing
+pub mod Signs

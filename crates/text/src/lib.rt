@@ -3,7 +3,9 @@
 ghost use Prim.Native.Nat.{_+_, _^_, _≤_, _<_};
 ghost use mathlib.Core.Path.{_≡_};
 ghost use lib.ListN.{length, set};
-ghost use lib.IntN.{pos};
+ghost use mathlib.Core.Bool.{false};
+ghost use lib.IntN.{pos, negsuc};
+ghost use lib.Signed.{nonNeg};
 ghost use Rattle.text.specs.Decimal.{dec, decimal, number, plain, signed};
 ghost use Rattle.text.specs.Line.{lineOf, line};
 ghost use Rattle.text.specs.Answer.{Put, NaturalIn, WholeIn, Matched, DigitOf, Asked, AskedSigned};
@@ -57,6 +59,22 @@ pub fn put_natural(buf: &mut [u8], at: usize, v: u64) -> usize
     }
 }
 
+// How far a negative number lies below -1: the least one has no negative of its own width.
+fn short_of_minus_one(z: i64) -> u64
+    requires { ⌜ nonNeg z ≡ false ⌝ }
+    ensures { λ r. ⌜ z ≡ negsuc r ⌝ }
+{
+    (-1 - z) as u64
+}
+
+// -1 - m.
+fn minus_one_less(m: u64) -> i64
+    requires { ⌜ m < 2 ^ 63 ⌝ }
+    ensures { λ r. ⌜ r ≡ negsuc m ⌝ }
+{
+    -1 - (m as i64)
+}
+
 // Writes z, with a minus where it is negative.
 pub fn put_whole(buf: &mut [u8], at: usize, z: i64) -> usize
     requires { ⌜ at + length (decimal z) < 2 ^ 64 ⌝ }
@@ -64,7 +82,7 @@ pub fn put_whole(buf: &mut [u8], at: usize, z: i64) -> usize
 {
     if z < 0 {
         put(buf, at, 45);
-        put_natural(buf, at + 1, ((-1 - z) as u64) + 1)
+        put_natural(buf, at + 1, short_of_minus_one(z) + 1)
     } else {
         put_natural(buf, at, z as u64)
     }
@@ -176,7 +194,7 @@ pub fn read_whole(t: &[u8], start: usize, below: u64, most: u64, end: u8) -> Who
     if start < t.len() {
         if t[start] == 45 {
             return match read_natural(t, start + 1, 1, below, end) {
-                Natural::Value(v, p) => Whole::Value(-1 - ((v - 1) as i64), p),
+                Natural::Value(v, p) => Whole::Value(minus_one_less(v - 1), p),
                 Natural::Wrong(k) => Whole::Wrong(k),
             };
         }
