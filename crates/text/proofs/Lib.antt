@@ -3,3 +3,5 @@ pub mod Forms
 pub mod Numbers
 pub mod Writing
 pub mod Signs
+pub mod Lines
+pub mod Settled

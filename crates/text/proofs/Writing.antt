@@ -7,7 +7,9 @@ use native.Mathlib.Nat.{add-zero, add-suc, suc-add}
 use native.Mathlib.Numerals.{add-one}
 use lib.ListN.{length, getD, take, set, length-append}
 use lib.Seq.{sets, take-suc, length-take-le, length-sets}
-use Rattle.text.specs.Decimal.{dec}
+use lib.IntN.{ℤ}
+use Rattle.text.specs.Decimal.{dec, decimal}
+use Rattle.text.specs.Line.{lineOf}
 use Rattle.text.specs.Answer.{Put}
 use Rattle.text.proofs.Decimals.{dec-one, dec-more}
 
@@ -45,3 +47,13 @@ put-digits old mid new i p v h a e =
 
 pub digits-room : (v : ℕ) → 10 ≤ v → length (dec v) ≡ length (dec (v / 10)) + 1
 digits-room v h = ap length (dec-more v h) ∙ length-append (dec (v / 10)) _
+
+-- ---- lines
+
+pub line-length : (key : List ℕ) (z : ℤ) → length (lineOf key z) ≡ length key + (length (decimal z) + 1)
+line-length key z = length-append key (decimal z ++ (10 ∷ [])) ∙ ap (λ (n : ℕ). length key + n) (length-append (decimal z) (10 ∷ []))
+
+pub put-line-parts : (old a b new key : List ℕ) (i p q : ℕ) (z : ℤ) → Put old i key a p → Put a p (decimal z) b q → new ≡ set b q 10
+    → Put old i (lineOf key z) new (q + 1)
+put-line-parts old a b new key i p q z k v e =
+    put-join old a new key (decimal z ++ (10 ∷ [])) i p (q + 1) k (put-join a b new (decimal z) (10 ∷ []) p q (q + 1) v (put-one b new q 10 e))

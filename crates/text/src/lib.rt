@@ -191,13 +191,14 @@ pub fn read_whole(t: &[u8], start: usize, below: u64, most: u64, end: u8) -> Who
     requires { ⌜ AskedSigned (now t) start below most end ⌝ }
     ensures { λ r. ⌜ WholeIn (number (signed below most) end) (now (t .entry)) start r ⌝ }
 {
-    if start < t.len() {
-        if t[start] == 45 {
-            return match read_natural(t, start + 1, 1, below, end) {
-                Natural::Value(v, p) => Whole::Value(minus_one_less(v - 1), p),
-                Natural::Wrong(k) => Whole::Wrong(k),
-            };
-        }
+    if start >= t.len() {
+        return Whole::Wrong(start);
+    }
+    if t[start] == 45 {
+        return match read_natural(t, start + 1, 1, below, end) {
+            Natural::Value(v, p) => Whole::Value(minus_one_less(v - 1), p),
+            Natural::Wrong(k) => Whole::Wrong(k),
+        };
     }
     match read_natural(t, start, 0, most, end) {
         Natural::Value(v, p) => Whole::Value(v as i64, p),

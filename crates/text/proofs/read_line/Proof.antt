@@ -1,3 +1,10 @@
+-- `text::read_line` meets its contract: the key, then the number. Assumes nothing.
+use native.Mathlib.Omega.{arith}
+use lib.IntN.{pos}
+use denote.Ref.{now}
+use Rattle.text.specs.Decimal.{plain}
+use Rattle.text.proofs.Numbers.{key-broken}
+use Rattle.text.proofs.Lines.{line-natural}
 use borrow.Author.Needs.{needs}
 use Rattle.text.proofs.read_line.Statement.{statement}
 use Rattle.text.proofs.read_line.Tie as tie
@@ -16,7 +23,9 @@ add-t9 c = search needs
 
 -- src/lib.rt:216:9
 returns : tie.Need-returns
-returns c = search needs
+returns c =
+    let a = c .before .before .before .before .args in
+    key-broken (now (a .t)) (a .start) (c .before .matched .result) (now (a .key)) (plain (a .least) (a .most)) (c .before .matched .ensures) (pos (a .most)) (c .before .before .before .before .pre .range, omega arith) (c .if1 .taken)
 
 -- src/lib.rt:218:21
 add-read-natural : tie.Need-add-read-natural
@@ -28,7 +37,9 @@ read-natural-requires c κs = search needs
 
 -- src/lib.rt:210:1
 returns-2 : tie.Need-returns-2
-returns-2 c = search needs
+returns-2 c =
+    let a = c .before .before .before .before .before .args in
+    line-natural (now (a .t)) (a .start) (c .before .before .matched .result) (now (a .key)) (plain (a .least) (a .most)) (c .before .before .matched .ensures) (c .before .if1 .left) (c .read-natural .result) (c .read-natural .ensures)
 
 pub read-line-spec : {M : Type 1} → statement M
 read-line-spec =
