@@ -156,3 +156,13 @@ refused-once L t j k a b =
     ⊎-elim (λ h. absurd (refused-before L t j k a b h))
     (⊎-elim (λ e. e) (λ h. absurd (refused-before L t k j b a h)))
     (order j k)
+
+-- Two languages with the same texts refuse alike.
+pub refused-alike : (L M : List ℕ → Type 0) → ((p : List ℕ) → L p → M p) → ((p : List ℕ) → M p → L p)
+    → (t : List ℕ) (k : ℕ) → RefusedAt L t k → RefusedAt M t k
+refused-alike L M there back t k r = record {
+  within = r .within;
+  begins = record { rest = r .begins .rest; whole = there _ (r .begins .whole) };
+  ends = λ inside b. r .ends inside (record { rest = b .rest; whole = back _ (b .whole) });
+  none = λ x. r .none (back t x);
+}

@@ -5,3 +5,4 @@ pub mod Writing
 pub mod Signs
 pub mod Lines
 pub mod Settled
+pub mod Tables

@@ -21,6 +21,15 @@ abbrev pub WholeIn : Form ℤ → List ℕ → ℕ → Whole → Type 0
 WholeIn f t start (Whole.Value z stop) = ReadAs f t start stop z
 WholeIn f t start (Whole.Wrong k) = Broken (Of f) t start k
 
+-- The place of an answer that is wrong.
+abbrev pub wrongAt : Natural → ℕ
+wrongAt (Natural.Value v stop) = 0
+wrongAt (Natural.Wrong k) = k
+
+abbrev pub wholeWrongAt : Whole → ℕ
+wholeWrongAt (Whole.Value z stop) = 0
+wholeWrongAt (Whole.Wrong k) = k
+
 -- The first n bytes of the key stand in t from `start`, and no more of it does.
 pub record Matched (t : List ℕ) (start : ℕ) (key : List ℕ) (n : ℕ) : Type 0 where
   pub most : n ≤ length key

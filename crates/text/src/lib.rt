@@ -8,7 +8,7 @@ ghost use lib.IntN.{pos, negsuc};
 ghost use lib.Signed.{nonNeg};
 ghost use Rattle.text.specs.Decimal.{dec, decimal, number, plain, signed};
 ghost use Rattle.text.specs.Line.{lineOf, line};
-ghost use Rattle.text.specs.Answer.{Put, NaturalIn, WholeIn, Matched, DigitOf, Asked, AskedSigned};
+ghost use Rattle.text.specs.Answer.{Put, NaturalIn, WholeIn, wrongAt, wholeWrongAt, Matched, DigitOf, Asked, AskedSigned};
 
 // An unsigned number and the place after it, or the place of the first byte that cannot stand there.
 pub enum Natural {
@@ -20,6 +20,29 @@ pub enum Natural {
 pub enum Whole {
     Value(i64, usize),
     Wrong(usize),
+}
+
+impl Natural {
+    // The place of an answer that is wrong.
+    pub fn wrong_at(self) -> usize
+        ensures { λ r. ⌜ r ≡ wrongAt self ⌝ }
+    {
+        match self {
+            Natural::Value(_, _) => 0,
+            Natural::Wrong(k) => k,
+        }
+    }
+}
+
+impl Whole {
+    pub fn wrong_at(self) -> usize
+        ensures { λ r. ⌜ r ≡ wholeWrongAt self ⌝ }
+    {
+        match self {
+            Whole::Value(_, _) => 0,
+            Whole::Wrong(k) => k,
+        }
+    }
 }
 
 // Stores a byte, or nothing past the end: so one function both measures (on an empty buffer) and writes.
