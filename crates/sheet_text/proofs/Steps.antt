@@ -3,8 +3,8 @@ use Prim.Native.Nat.{ℕ, zero, suc, _+_, _^_, _≤_, _<_}
 use mathlib.Core.Path.{_≡_, refl, sym, ap, _∙_, subst}
 use mathlib.Core.List.{List, [], _∷_, _++_, map}
 use native.Mathlib.Omega.{arith}
-use lib.ListN.{length, getD, take, drop, length-append, take-append-drop, length-take, length-drop}
-use lib.Seq.{take-suc, drop-cons, take-all, split-at}
+use lib.ListN.{length, getD, take, drop, length-append}
+use lib.Seq.{sets, length-sets, sets-eq, length-take-le, take-suc, take-all, split-at}
 use lib.IntN.{ℤ, pos, negsuc}
 use mir.Syntax.{w64}
 use mir.Val.{SFits}
@@ -17,6 +17,8 @@ use Rattle.text.proofs.Tables.{lines-read, lines-broken, lines-past, lines-all,
 use Rattle.figures.specs.declared.Figures.{Figures}
 use Rattle.sheet_text.specs.Sheet.{schema, valuesOf, textOf, InRange, IsSheet, unsigned64, signed64}
 use Rattle.sheet_text.specs.Read.{Accepted}
+use Rattle.sheet_text.specs.Write.{Done, Short}
+use Rattle.sheet_text.specs.declared.WriteAnswer.the-variants as WriteAnswer
 
 abbrev blank : Entry
 blank = record { key = []; range = plain 0 0 }
@@ -250,3 +252,32 @@ put-all f old new p a =
     subst (λ (w : List ℕ). Put old 0 w new p)
     (ap (λ (es : List Entry). linesOf es (take 15 (valuesOf f))) (take-all 15 schema (omega (arith, schema-length)))
     ∙ ap (linesOf schema) (take-all 15 (valuesOf f) (omega (arith, values-length f)))) a
+
+-- A run over no buffer writes nothing.
+pub nothing : (x w : List ℕ) → x ≡ sets [] 0 w → x ≡ []
+nothing x w e = none x (ap length e ∙ length-sets [] 0 w)
+  where
+    none : (y : List ℕ) → length y ≡ 0 → y ≡ []
+    none [] h = refl
+    none (c ∷ y) h = absurd (omega arith)
+
+pub put-done : (f : Figures) (old mid new : List ℕ) (n m : ℕ) → mid ≡ old → n ≡ 0 + length (textOf f) → n ≤ length mid → Put mid 0 (textOf f) new m → Done f old new m
+put-done f old mid new n m same size room a =
+    let long : length mid ≡ length old = ap length same in
+    let fits : 0 + length (textOf f) ≤ length mid = omega (arith, size) in
+    let text : new ≡ textOf f ++ drop m old =
+        a .is ∙ sets-eq (textOf f) mid 0 fits ∙ ap (λ (k : ℕ). textOf f ++ drop k mid) (sym (a .stops)) ∙ ap (λ (l : List ℕ). textOf f ++ drop m l) same
+    in
+    record {
+      size = omega (arith, a .stops);
+      room = omega (arith, a .stops);
+      is = text;
+      part = sym (length-take-le m new (omega (arith, a .stops, ap length (a .is), length-sets mid 0 (textOf f)))) }
+
+pub put-short : (f : Figures) (old mid : List ℕ) (n : ℕ) → mid ≡ old → n ≡ 0 + length (textOf f) → length mid < n → Short f old mid (WriteAnswer.TooShort n)
+put-short f old mid n same size short = record {
+    number = refl;
+    device = refl;
+    place = omega (arith, size);
+    short = omega (arith, ap length same);
+    is = same }
