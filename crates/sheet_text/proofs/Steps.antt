@@ -7,11 +7,19 @@ use lib.ListN.{length, getD, take, drop, length-append}
 use lib.Seq.{sets, length-sets, sets-eq, length-take-le, take-suc, take-all, split-at}
 use lib.IntN.{ℤ, pos, negsuc}
 use mir.Syntax.{w64}
-use mir.Val.{SFits}
-use Rattle.text.specs.Form.{Of, ReadAs, Broken, RefusedAt}
+use mir.Val.{SFits, toZ, ofZ}
+use mir.ValLaws.{toZ-ofZ}
+use denote.Enum.Declared.{tagOf}
+use Rattle.text.proofs.Natural as NaturalType
+use Rattle.text.proofs.Whole as WholeType
+use Rattle.text.specs.declared.Natural.{Natural}
+use Rattle.text.specs.declared.Natural.the-variants as Natural
+use Rattle.text.specs.declared.Whole.{Whole}
+use Rattle.text.specs.declared.Whole.the-variants as Whole
+use Rattle.text.specs.Form.{Form, Of, ReadAs, Broken, RefusedAt}
 use Rattle.text.specs.Decimal.{Fit, plain}
 use Rattle.text.specs.Line.{Entry, lineOf, line, linesOf, AllFit, lines}
-use Rattle.text.specs.Answer.{Put}
+use Rattle.text.specs.Answer.{Put, NaturalIn, WholeIn, wrongAt, wholeWrongAt, Asked, AskedSigned}
 use Rattle.text.proofs.Forms.{refused-alike}
 use Rattle.text.proofs.Tables.{lines-read, lines-broken, lines-past, lines-all, lines-put, lines-append, lines-longest, lines-snoc, Wide, longest}
 use Rattle.figures.specs.declared.Figures.{Figures}
@@ -266,18 +274,43 @@ put-done f old mid new n m same size room a =
     let long : length mid ≡ length old = ap length same in
     let fits : 0 + length (textOf f) ≤ length mid = omega (arith, size) in
     let text : new ≡ textOf f ++ drop m old =
-        a .is ∙ sets-eq (textOf f) mid 0 fits ∙ ap (λ (k : ℕ). textOf f ++ drop k mid) (sym (a .stops)) ∙ ap (λ (l : List ℕ). textOf f ++ drop m l) same
+    a .is ∙ sets-eq (textOf f) mid 0 fits ∙ ap (λ (k : ℕ). textOf f ++ drop k mid) (sym (a .stops)) ∙ ap (λ (l : List ℕ). textOf f ++ drop m l) same
     in
     record {
       size = omega (arith, a .stops);
       room = omega (arith, a .stops);
       is = text;
-      part = sym (length-take-le m new (omega (arith, a .stops, ap length (a .is), length-sets mid 0 (textOf f)))) }
+      part = sym (length-take-le m new (omega (arith, a .stops, ap length (a .is), length-sets mid 0 (textOf f))));
+    }
 
 pub put-short : (f : Figures) (old mid : List ℕ) (n : ℕ) → mid ≡ old → n ≡ 0 + length (textOf f) → length mid < n → Short f old mid (WriteAnswer.TooShort n)
 put-short f old mid n same size short = record {
-    number = refl;
-    device = refl;
-    place = omega (arith, size);
-    short = omega (arith, ap length same);
-    is = same }
+  number = refl;
+  device = refl;
+  place = omega (arith, size);
+  short = omega (arith, ap length same);
+  is = same;
+}
+
+-- ---- an answer whose case is known
+
+pub natural-wrong : (f : Form ℤ) (t : List ℕ) (i k : ℕ) (a : Natural) → tagOf NaturalType.the-type a ≡ 1 → k ≡ wrongAt a → NaturalIn f t i a → Broken (Of f) t i k
+natural-wrong f t i k (Natural.Value v stop) tag e p = absurd (omega (arith, tag))
+natural-wrong f t i k (Natural.Wrong j) tag e p = subst (Broken (Of f) t i) (sym e) p
+
+pub whole-wrong : (f : Form ℤ) (t : List ℕ) (i k : ℕ) (a : Whole) → tagOf WholeType.the-type a ≡ 1 → k ≡ wholeWrongAt a → WholeIn f t i a → Broken (Of f) t i k
+whole-wrong f t i k (Whole.Value z stop) tag e p = absurd (omega (arith, tag))
+whole-wrong f t i k (Whole.Wrong j) tag e p = subst (Broken (Of f) t i) (sym e) p
+
+pub asked : (t : List ℕ) (p : ℕ) → p ≤ length t → Asked t p 0 18446744073709551615 10
+asked t p h = record { within = h; low = omega arith; range = omega arith; stop = omega arith }
+
+pub asked-signed : (t : List ℕ) (p : ℕ) → p ≤ length t → AskedSigned t p 9223372036854775808 9223372036854775807 10
+asked-signed t p h = record { within = h; some = omega arith; negative = omega arith; positive = omega arith; stop = omega arith }
+
+pub signed-back : (z : ℤ) → Fit signed64 z → toZ w64 (ofZ w64 z) ≡ z
+signed-back z h = toZ-ofZ w64 z (fits z h)
+  where
+    fits : (y : ℤ) → Fit signed64 y → SFits w64 y
+    fits (pos n) g = record { sfits = omega (arith, g .1) }
+    fits (negsuc n) g = record { sfits = g }
