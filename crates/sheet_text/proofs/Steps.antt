@@ -119,7 +119,7 @@ zeros-fit = omega arith
 
 -- ---- a sheet's text is the table's
 
-abbrev nat : ℤ → ℕ
+abbrev pub nat : ℤ → ℕ
 nat (pos n) = n
 nat (negsuc n) = 0
 
