@@ -2,10 +2,12 @@
 use figures::Figures;
 use text::Natural;
 use text::Whole;
-ghost use Prim.Native.Nat.{_≤_};
+ghost use mathlib.Core.Path.{_≡_};
 ghost use Rattle.text.specs.Answer.{Put};
 ghost use Rattle.sheet_text.specs.Sheet.{textOf};
+ghost use Rattle.sheet_text.specs.Read as Read;
 ghost use Rattle.sheet_text.specs.Read.{ReadRight};
+ghost use Rattle.sheet_text.specs.Write as Write;
 ghost use Rattle.sheet_text.specs.Write.{WriteRight};
 
 const MOST: u64 = 18446744073709551615;
@@ -24,6 +26,59 @@ pub enum ReadAnswer {
 pub enum WriteAnswer {
     Written(usize),
     TooShort(usize),
+}
+
+// Document 01's number, device and place of an answer.
+impl ReadAnswer {
+    pub fn number(self) -> u64
+        ensures { λ r. ⌜ r ≡ Read.numberOf self ⌝ }
+    {
+        match self {
+            ReadAnswer::Sheet(_) => 0,
+            ReadAnswer::NoSheet(_) => 10,
+        }
+    }
+
+    pub fn device(self) -> u64
+        ensures { λ r. ⌜ r ≡ Read.deviceOf self ⌝ }
+    {
+        0
+    }
+
+    pub fn place(self) -> usize
+        ensures { λ r. ⌜ r ≡ Read.placeOf self ⌝ }
+    {
+        match self {
+            ReadAnswer::Sheet(_) => 0,
+            ReadAnswer::NoSheet(k) => k,
+        }
+    }
+}
+
+impl WriteAnswer {
+    pub fn number(self) -> u64
+        ensures { λ r. ⌜ r ≡ Write.numberOf self ⌝ }
+    {
+        match self {
+            WriteAnswer::Written(_) => 0,
+            WriteAnswer::TooShort(_) => 11,
+        }
+    }
+
+    pub fn device(self) -> u64
+        ensures { λ r. ⌜ r ≡ Write.deviceOf self ⌝ }
+    {
+        0
+    }
+
+    pub fn place(self) -> usize
+        ensures { λ r. ⌜ r ≡ Write.placeOf self ⌝ }
+    {
+        match self {
+            WriteAnswer::Written(_) => 0,
+            WriteAnswer::TooShort(n) => n,
+        }
+    }
 }
 
 // The sheet's lines into the buffer as far as it goes, and their length whatever the buffer's.
