@@ -53,7 +53,7 @@ digits-room v h = ap length (dec-more v h) ∙ length-append (dec (v / 10)) _
 pub line-length : (key : List ℕ) (z : ℤ) → length (lineOf key z) ≡ length key + (length (decimal z) + 1)
 line-length key z = length-append key (decimal z ++ (10 ∷ [])) ∙ ap (λ (n : ℕ). length key + n) (length-append (decimal z) (10 ∷ []))
 
-pub put-line-parts : (old a b new key : List ℕ) (i p q : ℕ) (z : ℤ) → Put old i key a p → Put a p (decimal z) b q → new ≡ set b q 10
-    → Put old i (lineOf key z) new (q + 1)
-put-line-parts old a b new key i p q z k v e =
-    put-join old a new key (decimal z ++ (10 ∷ [])) i p (q + 1) k (put-join a b new (decimal z) (10 ∷ []) p q (q + 1) v (put-one b new q 10 e))
+pub put-line-parts : (old a b new key : List ℕ) (i p q r : ℕ) (z : ℤ) → Put old i key a p → Put a p (decimal z) b q → Put b q (10 ∷ []) new r
+    → Put old i (lineOf key z) new r
+put-line-parts old a b new key i p q r z k v e =
+    put-join old a new key (decimal z ++ (10 ∷ [])) i p r k (put-join a b new (decimal z) (10 ∷ []) p q r v e)

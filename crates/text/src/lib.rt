@@ -2,6 +2,7 @@
 // The records' and the sheet's texts are made of these parts; what a form is and what a refusal means is in specs/Form.antt.
 ghost use Prim.Native.Nat.{_+_, _^_, _≤_, _<_};
 ghost use mathlib.Core.Path.{_≡_};
+ghost use mathlib.Core.List.{[], _∷_};
 ghost use lib.ListN.{length, set};
 ghost use mathlib.Core.Bool.{false};
 ghost use lib.IntN.{pos, negsuc};
@@ -23,7 +24,7 @@ pub enum Whole {
 }
 
 impl Natural {
-    // The place of an answer that is wrong.
+    // The place of an answer that is wrong. Rules out: 0 for every answer; the place after a value.
     pub fn wrong_at(self) -> usize
         ensures { λ r. ⌜ r ≡ wrongAt self ⌝ }
     {
@@ -35,6 +36,7 @@ impl Natural {
 }
 
 impl Whole {
+    // The same of a signed one. Rules out: 0 for every answer; the place after a value.
     pub fn wrong_at(self) -> usize
         ensures { λ r. ⌜ r ≡ wholeWrongAt self ⌝ }
     {
@@ -55,6 +57,7 @@ fn put(buf: &mut [u8], at: usize, b: u8)
 }
 
 // Writes the bytes of w from `at`, and gives the place after them.
+// Rules out: a byte after w's end changed; the buffer's end given as the place.
 pub fn put_bytes(buf: &mut [u8], at: usize, w: &[u8]) -> usize
     requires { ⌜ at + length (now w) < 2 ^ 64 ⌝ }
     ensures { λ r. ⌜ Put (now (buf .entry)) at (now (w .entry)) (now (buf .exit)) r ⌝ }
@@ -68,6 +71,7 @@ pub fn put_bytes(buf: &mut [u8], at: usize, w: &[u8]) -> usize
 }
 
 // Writes the digits of v from `at`, and gives the place after them.
+// Rules out: the digits backwards; nothing written for 0.
 pub fn put_natural(buf: &mut [u8], at: usize, v: u64) -> usize
     requires { ⌜ at + length (dec v) < 2 ^ 64 ⌝ }
     ensures { λ r. ⌜ Put (now (buf .entry)) at (dec v) (now (buf .exit)) r ⌝ }
@@ -99,6 +103,7 @@ fn minus_one_less(m: u64) -> i64
 }
 
 // Writes z, with a minus where it is negative.
+// Rules out: -0 for 0; a wrong digit for the least number, which has no negative.
 pub fn put_whole(buf: &mut [u8], at: usize, z: i64) -> usize
     requires { ⌜ at + length (decimal z) < 2 ^ 64 ⌝ }
     ensures { λ r. ⌜ Put (now (buf .entry)) at (decimal z) (now (buf .exit)) r ⌝ }
@@ -111,29 +116,40 @@ pub fn put_whole(buf: &mut [u8], at: usize, z: i64) -> usize
     }
 }
 
+// Writes byte 10.
+fn end_line(buf: &mut [u8], at: usize) -> usize
+    requires { ⌜ at + 1 < 2 ^ 64 ⌝ }
+    ensures { λ r. ⌜ Put (now (buf .entry)) at (10 ∷ []) (now (buf .exit)) r ⌝ }
+{
+    let stop = at + 1;
+    put(buf, at, 10);
+    stop
+}
+
 // Writes a line: the key, which ends with `=`, the number and byte 10.
+// Rules out: a line without its byte 10; byte 10 one place further on.
 pub fn put_line(buf: &mut [u8], at: usize, key: &[u8], v: u64) -> usize
     requires { ⌜ at + length (lineOf (now key) (pos v)) < 2 ^ 64 ⌝ }
     ensures { λ r. ⌜ Put (now (buf .entry)) at (lineOf (now (key .entry)) (pos v)) (now (buf .exit)) r ⌝ }
 {
     let p = put_bytes(buf, at, key);
     let q = put_natural(buf, p, v);
-    put(buf, q, 10);
-    q + 1
+    end_line(buf, q)
 }
 
 // Writes a line with a signed number.
+// Rules out: the minus before the key; a place after the line that counts no minus.
 pub fn put_signed_line(buf: &mut [u8], at: usize, key: &[u8], z: i64) -> usize
     requires { ⌜ at + length (lineOf (now key) z) < 2 ^ 64 ⌝ }
     ensures { λ r. ⌜ Put (now (buf .entry)) at (lineOf (now (key .entry)) z) (now (buf .exit)) r ⌝ }
 {
     let p = put_bytes(buf, at, key);
     let q = put_whole(buf, p, z);
-    put(buf, q, 10);
-    q + 1
+    end_line(buf, q)
 }
 
 // How many bytes of the key stand in t from `start`.
+// Rules out: 0 for a key that is wrong in its last byte only; the whole key where the text stops inside it.
 pub fn matched(t: &[u8], start: usize, key: &[u8]) -> usize
     requires { ⌜ start ≤ length (now t) ⌝ }
     ensures { λ r. ⌜ Matched (now (t .entry)) start (now (key .entry)) r ⌝ }
@@ -243,6 +259,7 @@ pub fn read_line(t: &[u8], start: usize, key: &[u8], least: u64, most: u64) -> N
 }
 
 // Reads a line with a signed number.
+// Rules out: `tonnes=-` refused at the minus rather than behind it; a value above the range read.
 pub fn read_signed_line(t: &[u8], start: usize, key: &[u8], below: u64, most: u64) -> Whole
     requires { ⌜ AskedSigned (now t) start below most 10 ⌝ }
     ensures { λ r. ⌜ WholeIn (line (now (key .entry)) (signed below most)) (now (t .entry)) start r ⌝ }

@@ -8,7 +8,6 @@ use lib.ListN.{length, take}
 use lib.Seq.{length-sets}
 use denote.Ref.{now}
 use mir.Syntax.{w64}
-use mir.Val.{SFits}
 use mir.ValLaws.{toZ-ofZ}
 use Rattle.text.specs.Line.{linesOf, lineOf}
 use Rattle.text.specs.Answer.{Put}
@@ -16,10 +15,6 @@ use Rattle.sheet_text.specs.Sheet.{InRange, schema, valuesOf}
 use Rattle.sheet_text.proofs.Steps.{signed-fit, put-step, put-room, put-none, put-all, entryAt}
 use Rattle.sheet_text.proofs.put_sheet.Statement.{statement}
 use Rattle.sheet_text.proofs.put_sheet.Tie as tie
-use Rattle.sheet_text.proofs.put_sheet.Reads as reads
-use Rattle.sheet_text.proofs.put_sheet.Lts as lts
-use Rattle.text.proofs.put_line.Reads as put-line-reads
-use Rattle.text.proofs.put_signed_line.Reads as put-signed-line-reads
 
 -- The figures of the call are 64-bit figures.
 in-range : (c : tie.Start) → InRange (c .args .f)
@@ -148,150 +143,118 @@ unfolding schema valuesOf
 fact15 c =
     put-step (c .before .before .before .before .before .before .before .before .before .before .before .before .before .before .before .before .before .before .before .before .before .before .before .before .before .before .before .before .before .before .before .before .before .before .before .before .before .before .before .before .before .before .before .before .before .before .before .before .before .before .before .before .before .before .before .before .before .before .before .before .before .before .before .before .before .before .before .before .before .before .before .before .before .before .before .before .args .f) (in-range (c .before .before .before .before .before .before .before .before .before .before .before .before .before .before .before .before .before .before .before .before .before .before .before .before .before .before .before .before .before .before .before .before .before .before .before .before .before .before .before .before .before .before .before .before .before .before .before .before .before .before .before .before .before .before .before .before .before .before .before .before .before .before .before .before .before .before .before .before .before .before .before .before .before .before .before .before)) 14 (omega arith) (now (c .before .before .before .before .before .before .before .before .before .before .before .before .before .before .before .before .before .before .before .before .before .before .before .before .before .before .before .before .before .before .before .before .before .before .before .before .before .before .before .before .before .before .before .before .before .before .before .before .before .before .before .before .before .before .before .before .before .before .before .before .before .before .before .before .before .before .before .before .before .before .before .before .before .before .before .before .args .buf)) (c .before .before .before .before .before .put-signed-line2 .last .0) (c .before .before .before .before .before .put-signed-line2 .result) (fact14 ((c .before .before .before .before .before))) (c .put-line13 .last .0) (c .put-line13 .result) (c .put-line13 .ensures)
 
--- src/lib.rt:33:37
 slice-aggregate-put-line : tie.Need-slice-aggregate-put-line
 slice-aggregate-put-line c = search needs
 
--- src/lib.rt:33:9
 put-line-requires : tie.Need-put-line-requires
 unfolding schema valuesOf
 put-line-requires c κs = put-room (c .before .before .before .args .f) (in-range (c .before .before .before)) 0 (omega arith) (now (c .before .before .before .args .buf)) (now (c .before .before .before .args .buf)) 0 (put-none (c .before .before .before .args .f) (now (c .before .before .before .args .buf)))
 
--- src/lib.rt:34:38
 slice-aggregate-put-line-2 : tie.Need-slice-aggregate-put-line-2
 slice-aggregate-put-line-2 c = search needs
 
--- src/lib.rt:34:9
 put-line-requires-2 : tie.Need-put-line-requires-2
 unfolding schema valuesOf
 put-line-requires-2 c κs = put-room (c .before .before .before .before .before .before .before .before .args .f) (in-range (c .before .before .before .before .before .before .before .before)) 1 (omega arith) (now (c .before .before .before .before .before .before .before .before .args .buf)) (c .before .before .before .before .put-line .last .0) (c .before .before .before .before .put-line .result) (fact1 ((c .before .before .before .before)))
 
--- src/lib.rt:35:38
 slice-aggregate-put-line-3 : tie.Need-slice-aggregate-put-line-3
 slice-aggregate-put-line-3 c = search needs
 
--- src/lib.rt:35:9
 put-line-requires-3 : tie.Need-put-line-requires-3
 unfolding schema valuesOf
 put-line-requires-3 c κs = put-room (c .before .before .before .before .before .before .before .before .before .before .before .before .before .args .f) (in-range (c .before .before .before .before .before .before .before .before .before .before .before .before .before)) 2 (omega arith) (now (c .before .before .before .before .before .before .before .before .before .before .before .before .before .args .buf)) (c .before .before .before .before .put-line2 .last .0) (c .before .before .before .before .put-line2 .result) (fact2 ((c .before .before .before .before)))
 
--- src/lib.rt:36:38
 slice-aggregate-put-line-4 : tie.Need-slice-aggregate-put-line-4
 slice-aggregate-put-line-4 c = search needs
 
--- src/lib.rt:36:9
 put-line-requires-4 : tie.Need-put-line-requires-4
 unfolding schema valuesOf
 put-line-requires-4 c κs = put-room (c .before .before .before .before .before .before .before .before .before .before .before .before .before .before .before .before .before .before .args .f) (in-range (c .before .before .before .before .before .before .before .before .before .before .before .before .before .before .before .before .before .before)) 3 (omega arith) (now (c .before .before .before .before .before .before .before .before .before .before .before .before .before .before .before .before .before .before .args .buf)) (c .before .before .before .before .put-line3 .last .0) (c .before .before .before .before .put-line3 .result) (fact3 ((c .before .before .before .before)))
 
--- src/lib.rt:37:38
 slice-aggregate-put-line-5 : tie.Need-slice-aggregate-put-line-5
 slice-aggregate-put-line-5 c = search needs
 
--- src/lib.rt:37:9
 put-line-requires-5 : tie.Need-put-line-requires-5
 unfolding schema valuesOf
 put-line-requires-5 c κs = put-room (c .before .before .before .before .before .before .before .before .before .before .before .before .before .before .before .before .before .before .before .before .before .before .before .args .f) (in-range (c .before .before .before .before .before .before .before .before .before .before .before .before .before .before .before .before .before .before .before .before .before .before .before)) 4 (omega arith) (now (c .before .before .before .before .before .before .before .before .before .before .before .before .before .before .before .before .before .before .before .before .before .before .before .args .buf)) (c .before .before .before .before .put-line4 .last .0) (c .before .before .before .before .put-line4 .result) (fact4 ((c .before .before .before .before)))
 
--- src/lib.rt:38:38
 slice-aggregate-put-line-6 : tie.Need-slice-aggregate-put-line-6
 slice-aggregate-put-line-6 c = search needs
 
--- src/lib.rt:38:9
 put-line-requires-6 : tie.Need-put-line-requires-6
 unfolding schema valuesOf
 put-line-requires-6 c κs = put-room (c .before .before .before .before .before .before .before .before .before .before .before .before .before .before .before .before .before .before .before .before .before .before .before .before .before .before .before .before .args .f) (in-range (c .before .before .before .before .before .before .before .before .before .before .before .before .before .before .before .before .before .before .before .before .before .before .before .before .before .before .before .before)) 5 (omega arith) (now (c .before .before .before .before .before .before .before .before .before .before .before .before .before .before .before .before .before .before .before .before .before .before .before .before .before .before .before .before .args .buf)) (c .before .before .before .before .put-line5 .last .0) (c .before .before .before .before .put-line5 .result) (fact5 ((c .before .before .before .before)))
 
--- src/lib.rt:39:38
 slice-aggregate-put-line-7 : tie.Need-slice-aggregate-put-line-7
 slice-aggregate-put-line-7 c = search needs
 
--- src/lib.rt:39:9
 put-line-requires-7 : tie.Need-put-line-requires-7
 unfolding schema valuesOf
 put-line-requires-7 c κs = put-room (c .before .before .before .before .before .before .before .before .before .before .before .before .before .before .before .before .before .before .before .before .before .before .before .before .before .before .before .before .before .before .before .before .before .args .f) (in-range (c .before .before .before .before .before .before .before .before .before .before .before .before .before .before .before .before .before .before .before .before .before .before .before .before .before .before .before .before .before .before .before .before .before)) 6 (omega arith) (now (c .before .before .before .before .before .before .before .before .before .before .before .before .before .before .before .before .before .before .before .before .before .before .before .before .before .before .before .before .before .before .before .before .before .args .buf)) (c .before .before .before .before .put-line6 .last .0) (c .before .before .before .before .put-line6 .result) (fact6 ((c .before .before .before .before)))
 
--- src/lib.rt:40:38
 slice-aggregate-put-line-8 : tie.Need-slice-aggregate-put-line-8
 slice-aggregate-put-line-8 c = search needs
 
--- src/lib.rt:40:9
 put-line-requires-8 : tie.Need-put-line-requires-8
 unfolding schema valuesOf
 put-line-requires-8 c κs = put-room (c .before .before .before .before .before .before .before .before .before .before .before .before .before .before .before .before .before .before .before .before .before .before .before .before .before .before .before .before .before .before .before .before .before .before .before .before .before .before .args .f) (in-range (c .before .before .before .before .before .before .before .before .before .before .before .before .before .before .before .before .before .before .before .before .before .before .before .before .before .before .before .before .before .before .before .before .before .before .before .before .before .before)) 7 (omega arith) (now (c .before .before .before .before .before .before .before .before .before .before .before .before .before .before .before .before .before .before .before .before .before .before .before .before .before .before .before .before .before .before .before .before .before .before .before .before .before .before .args .buf)) (c .before .before .before .before .put-line7 .last .0) (c .before .before .before .before .put-line7 .result) (fact7 ((c .before .before .before .before)))
 
--- src/lib.rt:41:38
 slice-aggregate-put-line-9 : tie.Need-slice-aggregate-put-line-9
 slice-aggregate-put-line-9 c = search needs
 
--- src/lib.rt:41:9
 put-line-requires-9 : tie.Need-put-line-requires-9
 unfolding schema valuesOf
 put-line-requires-9 c κs = put-room (c .before .before .before .before .before .before .before .before .before .before .before .before .before .before .before .before .before .before .before .before .before .before .before .before .before .before .before .before .before .before .before .before .before .before .before .before .before .before .before .before .before .before .before .args .f) (in-range (c .before .before .before .before .before .before .before .before .before .before .before .before .before .before .before .before .before .before .before .before .before .before .before .before .before .before .before .before .before .before .before .before .before .before .before .before .before .before .before .before .before .before .before)) 8 (omega arith) (now (c .before .before .before .before .before .before .before .before .before .before .before .before .before .before .before .before .before .before .before .before .before .before .before .before .before .before .before .before .before .before .before .before .before .before .before .before .before .before .before .before .before .before .before .args .buf)) (c .before .before .before .before .put-line8 .last .0) (c .before .before .before .before .put-line8 .result) (fact8 ((c .before .before .before .before)))
 
--- src/lib.rt:42:39
 slice-aggregate-put-line-10 : tie.Need-slice-aggregate-put-line-10
 slice-aggregate-put-line-10 c = search needs
 
--- src/lib.rt:42:9
 put-line-requires-10 : tie.Need-put-line-requires-10
 unfolding schema valuesOf
 put-line-requires-10 c κs = put-room (c .before .before .before .before .before .before .before .before .before .before .before .before .before .before .before .before .before .before .before .before .before .before .before .before .before .before .before .before .before .before .before .before .before .before .before .before .before .before .before .before .before .before .before .before .before .before .before .before .args .f) (in-range (c .before .before .before .before .before .before .before .before .before .before .before .before .before .before .before .before .before .before .before .before .before .before .before .before .before .before .before .before .before .before .before .before .before .before .before .before .before .before .before .before .before .before .before .before .before .before .before .before)) 9 (omega arith) (now (c .before .before .before .before .before .before .before .before .before .before .before .before .before .before .before .before .before .before .before .before .before .before .before .before .before .before .before .before .before .before .before .before .before .before .before .before .before .before .before .before .before .before .before .before .before .before .before .before .args .buf)) (c .before .before .before .before .put-line9 .last .0) (c .before .before .before .before .put-line9 .result) (fact9 ((c .before .before .before .before)))
 
--- src/lib.rt:43:40
 slice-aggregate-put-line-11 : tie.Need-slice-aggregate-put-line-11
 slice-aggregate-put-line-11 c = search needs
 
--- src/lib.rt:43:9
 put-line-requires-11 : tie.Need-put-line-requires-11
 unfolding schema valuesOf
 put-line-requires-11 c κs = put-room (c .before .before .before .before .before .before .before .before .before .before .before .before .before .before .before .before .before .before .before .before .before .before .before .before .before .before .before .before .before .before .before .before .before .before .before .before .before .before .before .before .before .before .before .before .before .before .before .before .before .before .before .before .before .args .f) (in-range (c .before .before .before .before .before .before .before .before .before .before .before .before .before .before .before .before .before .before .before .before .before .before .before .before .before .before .before .before .before .before .before .before .before .before .before .before .before .before .before .before .before .before .before .before .before .before .before .before .before .before .before .before .before)) 10 (omega arith) (now (c .before .before .before .before .before .before .before .before .before .before .before .before .before .before .before .before .before .before .before .before .before .before .before .before .before .before .before .before .before .before .before .before .before .before .before .before .before .before .before .before .before .before .before .before .before .before .before .before .before .before .before .before .before .args .buf)) (c .before .before .before .before .put-line10 .last .0) (c .before .before .before .before .put-line10 .result) (fact10 ((c .before .before .before .before)))
 
--- src/lib.rt:44:40
 slice-aggregate-put-line-12 : tie.Need-slice-aggregate-put-line-12
 slice-aggregate-put-line-12 c = search needs
 
--- src/lib.rt:44:9
 put-line-requires-12 : tie.Need-put-line-requires-12
 unfolding schema valuesOf
 put-line-requires-12 c κs = put-room (c .before .before .before .before .before .before .before .before .before .before .before .before .before .before .before .before .before .before .before .before .before .before .before .before .before .before .before .before .before .before .before .before .before .before .before .before .before .before .before .before .before .before .before .before .before .before .before .before .before .before .before .before .before .before .before .before .before .before .args .f) (in-range (c .before .before .before .before .before .before .before .before .before .before .before .before .before .before .before .before .before .before .before .before .before .before .before .before .before .before .before .before .before .before .before .before .before .before .before .before .before .before .before .before .before .before .before .before .before .before .before .before .before .before .before .before .before .before .before .before .before .before)) 11 (omega arith) (now (c .before .before .before .before .before .before .before .before .before .before .before .before .before .before .before .before .before .before .before .before .before .before .before .before .before .before .before .before .before .before .before .before .before .before .before .before .before .before .before .before .before .before .before .before .before .before .before .before .before .before .before .before .before .before .before .before .before .before .args .buf)) (c .before .before .before .before .put-line11 .last .0) (c .before .before .before .before .put-line11 .result) (fact11 ((c .before .before .before .before)))
 
--- src/lib.rt:45:47
 slice-aggregate-put-signed-line : tie.Need-slice-aggregate-put-signed-line
 slice-aggregate-put-signed-line c = search needs
 
--- src/lib.rt:45:9
 put-signed-line-requires : tie.Need-put-signed-line-requires
 unfolding schema valuesOf
 put-signed-line-requires c κs =
     subst (λ (z : ℤ). c .before .before .before .before .before .put-line12 .result + length (lineOf (entryAt 12 .key) z) < 2 ^ 64) (sym (toZ-ofZ w64 (c .before .before .before .before .before .before .before .before .before .before .before .before .before .before .before .before .before .before .before .before .before .before .before .before .before .before .before .before .before .before .before .before .before .before .before .before .before .before .before .before .before .before .before .before .before .before .before .before .before .before .before .before .before .before .before .before .before .before .before .before .before .before .before .before .args .f .«reduction_mg») (record { sfits = c .before .before .before .before .before .before .before .before .before .before .before .before .before .before .before .before .before .before .before .before .before .before .before .before .before .before .before .before .before .before .before .before .before .before .before .before .before .before .before .before .before .before .before .before .before .before .before .before .before .before .before .before .before .before .before .before .before .before .before .before .before .before .before .before .good .0 .1 .1 .1 .1 .1 .1 .1 .1 .1 .1 .1 .1 .1 .1 .0 .1 })))
     (put-room (c .before .before .before .before .before .before .before .before .before .before .before .before .before .before .before .before .before .before .before .before .before .before .before .before .before .before .before .before .before .before .before .before .before .before .before .before .before .before .before .before .before .before .before .before .before .before .before .before .before .before .before .before .before .before .before .before .before .before .before .before .before .before .before .before .args .f) (in-range (c .before .before .before .before .before .before .before .before .before .before .before .before .before .before .before .before .before .before .before .before .before .before .before .before .before .before .before .before .before .before .before .before .before .before .before .before .before .before .before .before .before .before .before .before .before .before .before .before .before .before .before .before .before .before .before .before .before .before .before .before .before .before .before .before)) 12 (omega arith) (now (c .before .before .before .before .before .before .before .before .before .before .before .before .before .before .before .before .before .before .before .before .before .before .before .before .before .before .before .before .before .before .before .before .before .before .before .before .before .before .before .before .before .before .before .before .before .before .before .before .before .before .before .before .before .before .before .before .before .before .before .before .before .before .before .before .args .buf)) (c .before .before .before .before .before .put-line12 .last .0) (c .before .before .before .before .before .put-line12 .result) (fact12 ((c .before .before .before .before .before))))
 
--- src/lib.rt:46:47
 slice-aggregate-put-signed-line-2 : tie.Need-slice-aggregate-put-signed-line-2
 slice-aggregate-put-signed-line-2 c = search needs
 
--- src/lib.rt:46:9
 put-signed-line-requires-2 : tie.Need-put-signed-line-requires-2
 unfolding schema valuesOf
 put-signed-line-requires-2 c κs =
     subst (λ (z : ℤ). c .before .before .before .before .before .put-signed-line .result + length (lineOf (entryAt 13 .key) z) < 2 ^ 64) (sym (toZ-ofZ w64 (c .before .before .before .before .before .before .before .before .before .before .before .before .before .before .before .before .before .before .before .before .before .before .before .before .before .before .before .before .before .before .before .before .before .before .before .before .before .before .before .before .before .before .before .before .before .before .before .before .before .before .before .before .before .before .before .before .before .before .before .before .before .before .before .before .before .before .before .before .before .before .args .f .«tonnes») (record { sfits = c .before .before .before .before .before .before .before .before .before .before .before .before .before .before .before .before .before .before .before .before .before .before .before .before .before .before .before .before .before .before .before .before .before .before .before .before .before .before .before .before .before .before .before .before .before .before .before .before .before .before .before .before .before .before .before .before .before .before .before .before .before .before .before .before .before .before .before .before .before .before .good .0 .1 .1 .1 .1 .1 .1 .1 .1 .1 .1 .1 .1 .1 .1 .1 .0 .1 })))
     (put-room (c .before .before .before .before .before .before .before .before .before .before .before .before .before .before .before .before .before .before .before .before .before .before .before .before .before .before .before .before .before .before .before .before .before .before .before .before .before .before .before .before .before .before .before .before .before .before .before .before .before .before .before .before .before .before .before .before .before .before .before .before .before .before .before .before .before .before .before .before .before .before .args .f) (in-range (c .before .before .before .before .before .before .before .before .before .before .before .before .before .before .before .before .before .before .before .before .before .before .before .before .before .before .before .before .before .before .before .before .before .before .before .before .before .before .before .before .before .before .before .before .before .before .before .before .before .before .before .before .before .before .before .before .before .before .before .before .before .before .before .before .before .before .before .before .before .before)) 13 (omega arith) (now (c .before .before .before .before .before .before .before .before .before .before .before .before .before .before .before .before .before .before .before .before .before .before .before .before .before .before .before .before .before .before .before .before .before .before .before .before .before .before .before .before .before .before .before .before .before .before .before .before .before .before .before .before .before .before .before .before .before .before .before .before .before .before .before .before .before .before .before .before .before .before .args .buf)) (c .before .before .before .before .before .put-signed-line .last .0) (c .before .before .before .before .before .put-signed-line .result) (fact13 ((c .before .before .before .before .before))))
 
--- src/lib.rt:47:30
 slice-aggregate-put-line-13 : tie.Need-slice-aggregate-put-line-13
 slice-aggregate-put-line-13 c = search needs
 
--- src/lib.rt:47:5
 put-line-requires-13 : tie.Need-put-line-requires-13
 unfolding schema valuesOf
 put-line-requires-13 c κs = put-room (c .before .before .before .before .before .before .before .before .before .before .before .before .before .before .before .before .before .before .before .before .before .before .before .before .before .before .before .before .before .before .before .before .before .before .before .before .before .before .before .before .before .before .before .before .before .before .before .before .before .before .before .before .before .before .before .before .before .before .before .before .before .before .before .before .before .before .before .before .before .before .before .before .before .before .before .args .f) (in-range (c .before .before .before .before .before .before .before .before .before .before .before .before .before .before .before .before .before .before .before .before .before .before .before .before .before .before .before .before .before .before .before .before .before .before .before .before .before .before .before .before .before .before .before .before .before .before .before .before .before .before .before .before .before .before .before .before .before .before .before .before .before .before .before .before .before .before .before .before .before .before .before .before .before .before .before)) 14 (omega arith) (now (c .before .before .before .before .before .before .before .before .before .before .before .before .before .before .before .before .before .before .before .before .before .before .before .before .before .before .before .before .before .before .before .before .before .before .before .before .before .before .before .before .before .before .before .before .before .before .before .before .before .before .before .before .before .before .before .before .before .before .before .before .before .before .before .before .before .before .before .before .before .before .before .before .before .before .before .args .buf)) (c .before .before .before .before .put-signed-line2 .last .0) (c .before .before .before .before .put-signed-line2 .result) (fact14 ((c .before .before .before .before)))
 
--- src/lib.rt:30:1
 same-length : tie.Need-same-length
 same-length c = ap length (fact15 ((c .before .before)) .is) ∙ simp length-sets
 
--- src/lib.rt:30:1
 returns : tie.Need-returns
 returns c = put-all (c .before .before .before .before .before .before .before .before .before .before .before .before .before .before .before .before .before .before .before .before .before .before .before .before .before .before .before .before .before .before .before .before .before .before .before .before .before .before .before .before .before .before .before .before .before .before .before .before .before .before .before .before .before .before .before .before .before .before .before .before .before .before .before .before .before .before .before .before .before .before .before .before .before .before .before .before .before .before .args .f) (now (c .before .before .before .before .before .before .before .before .before .before .before .before .before .before .before .before .before .before .before .before .before .before .before .before .before .before .before .before .before .before .before .before .before .before .before .before .before .before .before .before .before .before .before .before .before .before .before .before .before .before .before .before .before .before .before .before .before .before .before .before .before .before .before .before .before .before .before .before .before .before .before .before .before .before .before .before .before .before .args .buf)) (c .before .before .put-line13 .last .0) (c .before .before .put-line13 .result) (fact15 ((c .before .before)))
 

@@ -1,9 +1,9 @@
 -- `sheet_text::read` meets its contract: one fact a line, each from the one before. Assumes nothing.
-use mathlib.Core.Path.{refl, sym, _∙_, ap}
+use mathlib.Core.Path.{refl}
 use mathlib.Core.List.{List, [], _∷_, _++_}
 use native.Mathlib.Omega.{arith}
 use lib.IntN.{ℤ, pos}
-use lib.ListN.{length, take}
+use lib.ListN.{take}
 use denote.Ref.{now}
 use mir.Syntax.{w64}
 use mir.Val.{toZ, ofZ}
@@ -17,12 +17,6 @@ use Rattle.sheet_text.proofs.Steps.{entryAt, read-step, read-refused, r
 use borrow.Author.Needs.{needs}
 use Rattle.sheet_text.proofs.read.Statement.{statement}
 use Rattle.sheet_text.proofs.read.Tie as tie
-use Rattle.sheet_text.proofs.read.Reads as reads
-use Rattle.sheet_text.proofs.read.Lts as lts
-use Rattle.text.proofs.Natural.wrong_at.Reads as Natural-wrong-at-reads
-use Rattle.text.proofs.Whole.wrong_at.Reads as Whole-wrong-at-reads
-use Rattle.text.proofs.read_line.Reads as read-line-reads
-use Rattle.text.proofs.read_signed_line.Reads as read-signed-line-reads
 
 -- What was read when the i-th line was: the values, and that their lines stand there.
 fact0 : (c : tie.Start) → ReadAs (lines (take 0 schema)) (now (c .args .t)) 0 0 []
@@ -188,27 +182,21 @@ unfolding schema
 fit14 c =
     whole-read (line (entryAt 13 .key) (entryAt 13 .range)) (now (c .before .before .before .before .before .before .before .before .before .before .before .before .before .before .before .before .before .before .before .before .before .before .before .before .before .before .before .before .before .before .before .before .before .before .before .before .before .before .before .before .before .before .before .before .before .before .before .before .before .before .before .before .before .before .before .before .before .before .before .before .before .before .before .before .before .before .before .before .before .before .before .args .t)) (c .before .before .before .before .before .before .a13 .given .0 .1 .0) (c .before .before .before .read-signed-line2 .result) (c .before .a14 .given .0 .0) (c .before .a14 .given .0 .1 .0) (c .before .a14 .given .1) (c .before .before .before .read-signed-line2 .ensures) .taken
 
--- src/lib.rt:66:36
 slice-aggregate-read-line : tie.Need-slice-aggregate-read-line
 slice-aggregate-read-line c = search needs
 
--- src/lib.rt:66:9
 read-line-requires : tie.Need-read-line-requires
 read-line-requires c κs = asked (now (c .before .before .args .t)) 0 (fact0 (c .before .before) .stands .within)
 
--- src/lib.rt:67:24
 enum-known-a1 : tie.Need-enum-known-a1
 enum-known-a1 c = search needs
 
--- src/lib.rt:68:36
 enum-told : tie.Need-enum-told
 enum-told c = search needs
 
--- src/lib.rt:68:36
 wrong-at-requires : tie.Need-wrong-at-requires
 wrong-at-requires c κs = search needs
 
--- src/lib.rt:68:9
 returns : tie.Need-returns
 unfolding schema
 returns c =
@@ -220,27 +208,21 @@ returns c =
           (natural-wrong (line (entryAt 0 .key) (entryAt 0 .range)) t 0 (c .wrong-at .result) (c .before .before .before .read-line .result) (c .before .before .match .keys2) (c .wrong-at .ensures) (c .before .before .before .read-line .ensures));
     }
 
--- src/lib.rt:70:37
 slice-aggregate-read-line-2 : tie.Need-slice-aggregate-read-line-2
 slice-aggregate-read-line-2 c = search needs
 
--- src/lib.rt:70:9
 read-line-requires-2 : tie.Need-read-line-requires-2
 read-line-requires-2 c κs = asked (now (c .before .before .before .before .before .before .before .args .t)) (c .before .before .a1 .given .0 .1 .0) (fact1 ((c .before)) .stands .within)
 
--- src/lib.rt:71:24
 enum-known-a2 : tie.Need-enum-known-a2
 enum-known-a2 c = search needs
 
--- src/lib.rt:72:36
 enum-told-2 : tie.Need-enum-told-2
 enum-told-2 c = search needs
 
--- src/lib.rt:72:36
 wrong-at-requires-2 : tie.Need-wrong-at-requires-2
 wrong-at-requires-2 c κs = search needs
 
--- src/lib.rt:72:9
 returns-2 : tie.Need-returns-2
 unfolding schema
 returns-2 c =
@@ -252,27 +234,21 @@ returns-2 c =
           (natural-wrong (line (entryAt 1 .key) (entryAt 1 .range)) t (c .before .before .before .before .before .before .a1 .given .0 .1 .0) (c .wrong-at2 .result) (c .before .before .before .read-line2 .result) (c .before .before .match2 .keys2) (c .wrong-at2 .ensures) (c .before .before .before .read-line2 .ensures));
     }
 
--- src/lib.rt:74:37
 slice-aggregate-read-line-3 : tie.Need-slice-aggregate-read-line-3
 slice-aggregate-read-line-3 c = search needs
 
--- src/lib.rt:74:9
 read-line-requires-3 : tie.Need-read-line-requires-3
 read-line-requires-3 c κs = asked (now (c .before .before .before .before .before .before .before .before .before .before .before .before .args .t)) (c .before .before .a2 .given .0 .1 .0) (fact2 ((c .before)) .stands .within)
 
--- src/lib.rt:75:24
 enum-known-a3 : tie.Need-enum-known-a3
 enum-known-a3 c = search needs
 
--- src/lib.rt:76:36
 enum-told-3 : tie.Need-enum-told-3
 enum-told-3 c = search needs
 
--- src/lib.rt:76:36
 wrong-at-requires-3 : tie.Need-wrong-at-requires-3
 wrong-at-requires-3 c κs = search needs
 
--- src/lib.rt:76:9
 returns-3 : tie.Need-returns-3
 unfolding schema
 returns-3 c =
@@ -284,27 +260,21 @@ returns-3 c =
           (natural-wrong (line (entryAt 2 .key) (entryAt 2 .range)) t (c .before .before .before .before .before .before .a2 .given .0 .1 .0) (c .wrong-at3 .result) (c .before .before .before .read-line3 .result) (c .before .before .match3 .keys2) (c .wrong-at3 .ensures) (c .before .before .before .read-line3 .ensures));
     }
 
--- src/lib.rt:78:37
 slice-aggregate-read-line-4 : tie.Need-slice-aggregate-read-line-4
 slice-aggregate-read-line-4 c = search needs
 
--- src/lib.rt:78:9
 read-line-requires-4 : tie.Need-read-line-requires-4
 read-line-requires-4 c κs = asked (now (c .before .before .before .before .before .before .before .before .before .before .before .before .before .before .before .before .before .args .t)) (c .before .before .a3 .given .0 .1 .0) (fact3 ((c .before)) .stands .within)
 
--- src/lib.rt:79:24
 enum-known-a4 : tie.Need-enum-known-a4
 enum-known-a4 c = search needs
 
--- src/lib.rt:80:36
 enum-told-4 : tie.Need-enum-told-4
 enum-told-4 c = search needs
 
--- src/lib.rt:80:36
 wrong-at-requires-4 : tie.Need-wrong-at-requires-4
 wrong-at-requires-4 c κs = search needs
 
--- src/lib.rt:80:9
 returns-4 : tie.Need-returns-4
 unfolding schema
 returns-4 c =
@@ -316,27 +286,21 @@ returns-4 c =
           (natural-wrong (line (entryAt 3 .key) (entryAt 3 .range)) t (c .before .before .before .before .before .before .a3 .given .0 .1 .0) (c .wrong-at4 .result) (c .before .before .before .read-line4 .result) (c .before .before .match4 .keys2) (c .wrong-at4 .ensures) (c .before .before .before .read-line4 .ensures));
     }
 
--- src/lib.rt:82:37
 slice-aggregate-read-line-5 : tie.Need-slice-aggregate-read-line-5
 slice-aggregate-read-line-5 c = search needs
 
--- src/lib.rt:82:9
 read-line-requires-5 : tie.Need-read-line-requires-5
 read-line-requires-5 c κs = asked (now (c .before .before .before .before .before .before .before .before .before .before .before .before .before .before .before .before .before .before .before .before .before .before .args .t)) (c .before .before .a4 .given .0 .1 .0) (fact4 ((c .before)) .stands .within)
 
--- src/lib.rt:83:24
 enum-known-a5 : tie.Need-enum-known-a5
 enum-known-a5 c = search needs
 
--- src/lib.rt:84:36
 enum-told-5 : tie.Need-enum-told-5
 enum-told-5 c = search needs
 
--- src/lib.rt:84:36
 wrong-at-requires-5 : tie.Need-wrong-at-requires-5
 wrong-at-requires-5 c κs = search needs
 
--- src/lib.rt:84:9
 returns-5 : tie.Need-returns-5
 unfolding schema
 returns-5 c =
@@ -348,27 +312,21 @@ returns-5 c =
           (natural-wrong (line (entryAt 4 .key) (entryAt 4 .range)) t (c .before .before .before .before .before .before .a4 .given .0 .1 .0) (c .wrong-at5 .result) (c .before .before .before .read-line5 .result) (c .before .before .match5 .keys2) (c .wrong-at5 .ensures) (c .before .before .before .read-line5 .ensures));
     }
 
--- src/lib.rt:86:37
 slice-aggregate-read-line-6 : tie.Need-slice-aggregate-read-line-6
 slice-aggregate-read-line-6 c = search needs
 
--- src/lib.rt:86:9
 read-line-requires-6 : tie.Need-read-line-requires-6
 read-line-requires-6 c κs = asked (now (c .before .before .before .before .before .before .before .before .before .before .before .before .before .before .before .before .before .before .before .before .before .before .before .before .before .before .before .args .t)) (c .before .before .a5 .given .0 .1 .0) (fact5 ((c .before)) .stands .within)
 
--- src/lib.rt:87:24
 enum-known-a6 : tie.Need-enum-known-a6
 enum-known-a6 c = search needs
 
--- src/lib.rt:88:36
 enum-told-6 : tie.Need-enum-told-6
 enum-told-6 c = search needs
 
--- src/lib.rt:88:36
 wrong-at-requires-6 : tie.Need-wrong-at-requires-6
 wrong-at-requires-6 c κs = search needs
 
--- src/lib.rt:88:9
 returns-6 : tie.Need-returns-6
 unfolding schema
 returns-6 c =
@@ -380,27 +338,21 @@ returns-6 c =
           (natural-wrong (line (entryAt 5 .key) (entryAt 5 .range)) t (c .before .before .before .before .before .before .a5 .given .0 .1 .0) (c .wrong-at6 .result) (c .before .before .before .read-line6 .result) (c .before .before .match6 .keys2) (c .wrong-at6 .ensures) (c .before .before .before .read-line6 .ensures));
     }
 
--- src/lib.rt:90:37
 slice-aggregate-read-line-7 : tie.Need-slice-aggregate-read-line-7
 slice-aggregate-read-line-7 c = search needs
 
--- src/lib.rt:90:9
 read-line-requires-7 : tie.Need-read-line-requires-7
 read-line-requires-7 c κs = asked (now (c .before .before .before .before .before .before .before .before .before .before .before .before .before .before .before .before .before .before .before .before .before .before .before .before .before .before .before .before .before .before .before .before .args .t)) (c .before .before .a6 .given .0 .1 .0) (fact6 ((c .before)) .stands .within)
 
--- src/lib.rt:91:24
 enum-known-a7 : tie.Need-enum-known-a7
 enum-known-a7 c = search needs
 
--- src/lib.rt:92:36
 enum-told-7 : tie.Need-enum-told-7
 enum-told-7 c = search needs
 
--- src/lib.rt:92:36
 wrong-at-requires-7 : tie.Need-wrong-at-requires-7
 wrong-at-requires-7 c κs = search needs
 
--- src/lib.rt:92:9
 returns-7 : tie.Need-returns-7
 unfolding schema
 returns-7 c =
@@ -412,27 +364,21 @@ returns-7 c =
           (natural-wrong (line (entryAt 6 .key) (entryAt 6 .range)) t (c .before .before .before .before .before .before .a6 .given .0 .1 .0) (c .wrong-at7 .result) (c .before .before .before .read-line7 .result) (c .before .before .match7 .keys2) (c .wrong-at7 .ensures) (c .before .before .before .read-line7 .ensures));
     }
 
--- src/lib.rt:94:37
 slice-aggregate-read-line-8 : tie.Need-slice-aggregate-read-line-8
 slice-aggregate-read-line-8 c = search needs
 
--- src/lib.rt:94:9
 read-line-requires-8 : tie.Need-read-line-requires-8
 read-line-requires-8 c κs = asked (now (c .before .before .before .before .before .before .before .before .before .before .before .before .before .before .before .before .before .before .before .before .before .before .before .before .before .before .before .before .before .before .before .before .before .before .before .before .before .args .t)) (c .before .before .a7 .given .0 .1 .0) (fact7 ((c .before)) .stands .within)
 
--- src/lib.rt:95:24
 enum-known-a8 : tie.Need-enum-known-a8
 enum-known-a8 c = search needs
 
--- src/lib.rt:96:36
 enum-told-8 : tie.Need-enum-told-8
 enum-told-8 c = search needs
 
--- src/lib.rt:96:36
 wrong-at-requires-8 : tie.Need-wrong-at-requires-8
 wrong-at-requires-8 c κs = search needs
 
--- src/lib.rt:96:9
 returns-8 : tie.Need-returns-8
 unfolding schema
 returns-8 c =
@@ -444,27 +390,21 @@ returns-8 c =
           (natural-wrong (line (entryAt 7 .key) (entryAt 7 .range)) t (c .before .before .before .before .before .before .a7 .given .0 .1 .0) (c .wrong-at8 .result) (c .before .before .before .read-line8 .result) (c .before .before .match8 .keys2) (c .wrong-at8 .ensures) (c .before .before .before .read-line8 .ensures));
     }
 
--- src/lib.rt:98:37
 slice-aggregate-read-line-9 : tie.Need-slice-aggregate-read-line-9
 slice-aggregate-read-line-9 c = search needs
 
--- src/lib.rt:98:9
 read-line-requires-9 : tie.Need-read-line-requires-9
 read-line-requires-9 c κs = asked (now (c .before .before .before .before .before .before .before .before .before .before .before .before .before .before .before .before .before .before .before .before .before .before .before .before .before .before .before .before .before .before .before .before .before .before .before .before .before .before .before .before .before .before .args .t)) (c .before .before .a8 .given .0 .1 .0) (fact8 ((c .before)) .stands .within)
 
--- src/lib.rt:99:24
 enum-known-a9 : tie.Need-enum-known-a9
 enum-known-a9 c = search needs
 
--- src/lib.rt:100:36
 enum-told-9 : tie.Need-enum-told-9
 enum-told-9 c = search needs
 
--- src/lib.rt:100:36
 wrong-at-requires-9 : tie.Need-wrong-at-requires-9
 wrong-at-requires-9 c κs = search needs
 
--- src/lib.rt:100:9
 returns-9 : tie.Need-returns-9
 unfolding schema
 returns-9 c =
@@ -476,27 +416,21 @@ returns-9 c =
           (natural-wrong (line (entryAt 8 .key) (entryAt 8 .range)) t (c .before .before .before .before .before .before .a8 .given .0 .1 .0) (c .wrong-at9 .result) (c .before .before .before .read-line9 .result) (c .before .before .match9 .keys2) (c .wrong-at9 .ensures) (c .before .before .before .read-line9 .ensures));
     }
 
--- src/lib.rt:102:38
 slice-aggregate-read-line-10 : tie.Need-slice-aggregate-read-line-10
 slice-aggregate-read-line-10 c = search needs
 
--- src/lib.rt:102:9
 read-line-requires-10 : tie.Need-read-line-requires-10
 read-line-requires-10 c κs = asked (now (c .before .before .before .before .before .before .before .before .before .before .before .before .before .before .before .before .before .before .before .before .before .before .before .before .before .before .before .before .before .before .before .before .before .before .before .before .before .before .before .before .before .before .before .before .before .before .before .args .t)) (c .before .before .a9 .given .0 .1 .0) (fact9 ((c .before)) .stands .within)
 
--- src/lib.rt:103:24
 enum-known-a10 : tie.Need-enum-known-a10
 enum-known-a10 c = search needs
 
--- src/lib.rt:104:36
 enum-told-10 : tie.Need-enum-told-10
 enum-told-10 c = search needs
 
--- src/lib.rt:104:36
 wrong-at-requires-10 : tie.Need-wrong-at-requires-10
 wrong-at-requires-10 c κs = search needs
 
--- src/lib.rt:104:9
 returns-10 : tie.Need-returns-10
 unfolding schema
 returns-10 c =
@@ -508,27 +442,21 @@ returns-10 c =
           (natural-wrong (line (entryAt 9 .key) (entryAt 9 .range)) t (c .before .before .before .before .before .before .a9 .given .0 .1 .0) (c .wrong-at10 .result) (c .before .before .before .read-line10 .result) (c .before .before .match10 .keys2) (c .wrong-at10 .ensures) (c .before .before .before .read-line10 .ensures));
     }
 
--- src/lib.rt:106:39
 slice-aggregate-read-line-11 : tie.Need-slice-aggregate-read-line-11
 slice-aggregate-read-line-11 c = search needs
 
--- src/lib.rt:106:9
 read-line-requires-11 : tie.Need-read-line-requires-11
 read-line-requires-11 c κs = asked (now (c .before .before .before .before .before .before .before .before .before .before .before .before .before .before .before .before .before .before .before .before .before .before .before .before .before .before .before .before .before .before .before .before .before .before .before .before .before .before .before .before .before .before .before .before .before .before .before .before .before .before .before .before .args .t)) (c .before .before .a10 .given .0 .1 .0) (fact10 ((c .before)) .stands .within)
 
--- src/lib.rt:107:24
 enum-known-a11 : tie.Need-enum-known-a11
 enum-known-a11 c = search needs
 
--- src/lib.rt:108:36
 enum-told-11 : tie.Need-enum-told-11
 enum-told-11 c = search needs
 
--- src/lib.rt:108:36
 wrong-at-requires-11 : tie.Need-wrong-at-requires-11
 wrong-at-requires-11 c κs = search needs
 
--- src/lib.rt:108:9
 returns-11 : tie.Need-returns-11
 unfolding schema
 returns-11 c =
@@ -540,27 +468,21 @@ returns-11 c =
           (natural-wrong (line (entryAt 10 .key) (entryAt 10 .range)) t (c .before .before .before .before .before .before .a10 .given .0 .1 .0) (c .wrong-at11 .result) (c .before .before .before .read-line11 .result) (c .before .before .match11 .keys2) (c .wrong-at11 .ensures) (c .before .before .before .read-line11 .ensures));
     }
 
--- src/lib.rt:110:39
 slice-aggregate-read-line-12 : tie.Need-slice-aggregate-read-line-12
 slice-aggregate-read-line-12 c = search needs
 
--- src/lib.rt:110:9
 read-line-requires-12 : tie.Need-read-line-requires-12
 read-line-requires-12 c κs = asked (now (c .before .before .before .before .before .before .before .before .before .before .before .before .before .before .before .before .before .before .before .before .before .before .before .before .before .before .before .before .before .before .before .before .before .before .before .before .before .before .before .before .before .before .before .before .before .before .before .before .before .before .before .before .before .before .before .before .before .args .t)) (c .before .before .a11 .given .0 .1 .0) (fact11 ((c .before)) .stands .within)
 
--- src/lib.rt:111:24
 enum-known-a12 : tie.Need-enum-known-a12
 enum-known-a12 c = search needs
 
--- src/lib.rt:112:36
 enum-told-12 : tie.Need-enum-told-12
 enum-told-12 c = search needs
 
--- src/lib.rt:112:36
 wrong-at-requires-12 : tie.Need-wrong-at-requires-12
 wrong-at-requires-12 c κs = search needs
 
--- src/lib.rt:112:9
 returns-12 : tie.Need-returns-12
 unfolding schema
 returns-12 c =
@@ -572,27 +494,21 @@ returns-12 c =
           (natural-wrong (line (entryAt 11 .key) (entryAt 11 .range)) t (c .before .before .before .before .before .before .a11 .given .0 .1 .0) (c .wrong-at12 .result) (c .before .before .before .read-line12 .result) (c .before .before .match12 .keys2) (c .wrong-at12 .ensures) (c .before .before .before .read-line12 .ensures));
     }
 
--- src/lib.rt:114:46
 slice-aggregate-read-signed-line : tie.Need-slice-aggregate-read-signed-line
 slice-aggregate-read-signed-line c = search needs
 
--- src/lib.rt:114:9
 read-signed-line-requires : tie.Need-read-signed-line-requires
 read-signed-line-requires c κs = asked-signed (now (c .before .before .before .before .before .before .before .before .before .before .before .before .before .before .before .before .before .before .before .before .before .before .before .before .before .before .before .before .before .before .before .before .before .before .before .before .before .before .before .before .before .before .before .before .before .before .before .before .before .before .before .before .before .before .before .before .before .before .before .before .before .before .args .t)) (c .before .before .a12 .given .0 .1 .0) (fact12 ((c .before)) .stands .within)
 
--- src/lib.rt:115:22
 enum-known-a13 : tie.Need-enum-known-a13
 enum-known-a13 c = search needs
 
--- src/lib.rt:116:36
 enum-told-13 : tie.Need-enum-told-13
 enum-told-13 c = search needs
 
--- src/lib.rt:116:36
 wrong-at-requires-13 : tie.Need-wrong-at-requires-13
 wrong-at-requires-13 c κs = search needs
 
--- src/lib.rt:116:9
 returns-13 : tie.Need-returns-13
 unfolding schema
 returns-13 c =
@@ -604,27 +520,21 @@ returns-13 c =
           (whole-wrong (line (entryAt 12 .key) (entryAt 12 .range)) t (c .before .before .before .before .before .before .a12 .given .0 .1 .0) (c .wrong-at13 .result) (c .before .before .before .read-signed-line .result) (c .before .before .match13 .keys2) (c .wrong-at13 .ensures) (c .before .before .before .read-signed-line .ensures));
     }
 
--- src/lib.rt:118:46
 slice-aggregate-read-signed-line-2 : tie.Need-slice-aggregate-read-signed-line-2
 slice-aggregate-read-signed-line-2 c = search needs
 
--- src/lib.rt:118:9
 read-signed-line-requires-2 : tie.Need-read-signed-line-requires-2
 read-signed-line-requires-2 c κs = asked-signed (now (c .before .before .before .before .before .before .before .before .before .before .before .before .before .before .before .before .before .before .before .before .before .before .before .before .before .before .before .before .before .before .before .before .before .before .before .before .before .before .before .before .before .before .before .before .before .before .before .before .before .before .before .before .before .before .before .before .before .before .before .before .before .before .before .before .before .before .before .args .t)) (c .before .before .a13 .given .0 .1 .0) (fact13 ((c .before)) .stands .within)
 
--- src/lib.rt:119:22
 enum-known-a14 : tie.Need-enum-known-a14
 enum-known-a14 c = search needs
 
--- src/lib.rt:120:36
 enum-told-14 : tie.Need-enum-told-14
 enum-told-14 c = search needs
 
--- src/lib.rt:120:36
 wrong-at-requires-14 : tie.Need-wrong-at-requires-14
 wrong-at-requires-14 c κs = search needs
 
--- src/lib.rt:120:9
 returns-14 : tie.Need-returns-14
 unfolding schema
 returns-14 c =
@@ -636,27 +546,21 @@ returns-14 c =
           (whole-wrong (line (entryAt 13 .key) (entryAt 13 .range)) t (c .before .before .before .before .before .before .a13 .given .0 .1 .0) (c .wrong-at14 .result) (c .before .before .before .read-signed-line2 .result) (c .before .before .match14 .keys2) (c .wrong-at14 .ensures) (c .before .before .before .read-signed-line2 .ensures));
     }
 
--- src/lib.rt:122:39
 slice-aggregate-read-line-13 : tie.Need-slice-aggregate-read-line-13
 slice-aggregate-read-line-13 c = search needs
 
--- src/lib.rt:122:9
 read-line-requires-13 : tie.Need-read-line-requires-13
 read-line-requires-13 c κs = asked (now (c .before .before .before .before .before .before .before .before .before .before .before .before .before .before .before .before .before .before .before .before .before .before .before .before .before .before .before .before .before .before .before .before .before .before .before .before .before .before .before .before .before .before .before .before .before .before .before .before .before .before .before .before .before .before .before .before .before .before .before .before .before .before .before .before .before .before .before .before .before .before .before .before .args .t)) (c .before .before .a14 .given .0 .1 .0) (fact14 ((c .before)) .stands .within)
 
--- src/lib.rt:123:24
 enum-known-a15 : tie.Need-enum-known-a15
 enum-known-a15 c = search needs
 
--- src/lib.rt:124:36
 enum-told-15 : tie.Need-enum-told-15
 enum-told-15 c = search needs
 
--- src/lib.rt:124:36
 wrong-at-requires-15 : tie.Need-wrong-at-requires-15
 wrong-at-requires-15 c κs = search needs
 
--- src/lib.rt:124:9
 returns-15 : tie.Need-returns-15
 unfolding schema
 returns-15 c =
@@ -668,13 +572,11 @@ returns-15 c =
           (natural-wrong (line (entryAt 14 .key) (entryAt 14 .range)) t (c .before .before .before .before .before .before .a14 .given .0 .1 .0) (c .wrong-at15 .result) (c .before .before .before .read-line13 .result) (c .before .before .match15 .keys2) (c .wrong-at15 .ensures) (c .before .before .before .read-line13 .ensures));
     }
 
--- src/lib.rt:127:9
 returns-16 : tie.Need-returns-16
 returns-16 c =
     let t = now (c .before .before .before .before .before .before .before .before .before .before .before .before .before .before .before .before .before .before .before .before .before .before .before .before .before .before .before .before .before .before .before .before .before .before .before .before .before .before .before .before .before .before .before .before .before .before .before .before .before .before .before .before .before .before .before .before .before .before .before .before .before .before .before .before .before .before .before .before .before .before .before .before .before .before .before .before .before .args .t) in
     record { number = refl; device = refl; place = read-past t (values15 ((c .before))) (c .before .before .a15 .given .0 .1 .0) (fact15 ((c .before))) (c .if1 .taken) }
 
--- src/lib.rt:63:1
 returns-17 : tie.Need-returns-17
 unfolding valuesOf
 returns-17 c =

@@ -8,41 +8,30 @@ use Rattle.sheet_text.proofs.Steps.{nothing, put-short, put-done}
 use borrow.Author.Needs.{needs}
 use Rattle.sheet_text.proofs.write.Statement.{statement}
 use Rattle.sheet_text.proofs.write.Tie as tie
-use Rattle.sheet_text.proofs.write.Reads as reads
-use Rattle.sheet_text.proofs.write.Lts as lts
-use Rattle.sheet_text.proofs.put_sheet.Reads as put-sheet-reads
 
--- src/lib.rt:54:26
 slice-relend-prefix-put-sheet : tie.Need-slice-relend-prefix-put-sheet
 slice-relend-prefix-put-sheet c = search needs
 
--- src/lib.rt:54:26
 slice-aggregate-put-sheet : tie.Need-slice-aggregate-put-sheet
 slice-aggregate-put-sheet c = search needs
 
--- src/lib.rt:54:9
 put-sheet-requires : tie.Need-put-sheet-requires
 put-sheet-requires c κs = search needs
 
--- src/lib.rt:56:9
 same-length : tie.Need-same-length
 same-length c = search needs
 
--- src/lib.rt:56:9
 returns : tie.Need-returns
 returns c =
     put-short (c .before .before .before .before .before .before .args .f) (now (c .before .before .before .before .before .before .args .buf)) (c .before .before .before .put-sheet .last .1 .0 ++ now (c .before .before .before .before .before .before .args .buf)) (c .before .before .before .put-sheet .result)
     (ap (λ (x : List ℕ). x ++ now (c .before .before .before .before .before .before .args .buf)) (nothing (c .before .before .before .put-sheet .last .1 .0) (textOf (c .before .before .before .before .before .before .args .f)) (c .before .before .before .put-sheet .ensures .is))) (c .before .before .before .put-sheet .ensures .stops) (c .if1 .taken)
 
--- src/lib.rt:58:9
 put-sheet-requires-2 : tie.Need-put-sheet-requires-2
 put-sheet-requires-2 c κs = search needs
 
--- src/lib.rt:51:1
 same-length-2 : tie.Need-same-length-2
 same-length-2 c = search needs
 
--- src/lib.rt:51:1
 returns-2 : tie.Need-returns-2
 returns-2 c =
     put-done (c .before .before .before .before .before .before .before .before .before .before .args .f) (now (c .before .before .before .before .before .before .before .before .before .before .args .buf)) (c .before .before .before .before .before .before .before .put-sheet .last .1 .0 ++ now (c .before .before .before .before .before .before .before .before .before .before .args .buf)) (c .before .before .put-sheet2 .last .1 .0) (c .before .before .before .before .before .before .before .put-sheet .result) (c .before .before .put-sheet2 .result)

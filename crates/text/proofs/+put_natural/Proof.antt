@@ -26,7 +26,6 @@ abbrev put-natural-below : ℕ → In 1 put-natural-kinds.ps
 put-natural-below t =
     and 1 put-natural-kinds.ps (falls 1 put-natural-kinds.ps _<_ μ-put-natural t) put-natural.Pre
 
--- src/lib.rt:51:28
 put-natural-cast-put : (t : ℕ) → put-natural-lts.Need-cast-put (
   put-reads.Asked,
   put-reads.Learnt,
@@ -35,7 +34,6 @@ put-natural-cast-put : (t : ℕ) → put-natural-lts.Need-cast-put (
 ) (put-natural-at t) put-natural.Post
 put-natural-cast-put t c = omega arith
 
--- src/lib.rt:51:22
 put-natural-add-put : (t : ℕ) → put-natural-lts.Need-add-put (
   put-reads.Asked,
   put-reads.Learnt,
@@ -44,7 +42,6 @@ put-natural-add-put : (t : ℕ) → put-natural-lts.Need-add-put (
 ) (put-natural-at t) put-natural.Post
 put-natural-add-put t c = omega arith
 
--- src/lib.rt:51:9
 put-natural-put-requires : (t : ℕ) → put-natural-lts.Need-put-requires (
   put-reads.Asked,
   put-reads.Learnt,
@@ -53,7 +50,6 @@ put-natural-put-requires : (t : ℕ) → put-natural-lts.Need-put-requires (
 ) (put-natural-at t) put-natural.Post
 put-natural-put-requires t c κs = search needs
 
--- src/lib.rt:52:9
 put-natural-add-result : (t : ℕ) → put-natural-lts.Need-add-result (
   put-reads.Asked,
   put-reads.Learnt,
@@ -62,7 +58,6 @@ put-natural-add-result : (t : ℕ) → put-natural-lts.Need-add-result (
 ) (put-natural-at t) put-natural.Post
 put-natural-add-result t c = omega (arith, digits (c .before .before .before .before .before .before .args .v) .some)
 
--- src/lib.rt:54:13
 put-natural-put-natural-requires : (t : ℕ) → put-natural-lts.Need-put-natural-requires (
   put-reads.Asked,
   put-reads.Learnt,
@@ -72,7 +67,6 @@ put-natural-put-natural-requires : (t : ℕ) → put-natural-lts.Need-put-natura
 put-natural-put-natural-requires t c κs =
     (omega arith, omega (arith, digits-room (c .before .before .before .args .v) (omega arith)))
 
--- src/lib.rt:55:27
 put-natural-cast-put-2 : (t : ℕ) → put-natural-lts.Need-cast-put-2 (
   put-reads.Asked,
   put-reads.Learnt,
@@ -81,7 +75,6 @@ put-natural-cast-put-2 : (t : ℕ) → put-natural-lts.Need-cast-put-2 (
 ) (put-natural-at t) put-natural.Post
 put-natural-cast-put-2 t c = omega arith
 
--- src/lib.rt:55:21
 put-natural-add-put-2 : (t : ℕ) → put-natural-lts.Need-add-put-2 (
   put-reads.Asked,
   put-reads.Learnt,
@@ -90,7 +83,6 @@ put-natural-add-put-2 : (t : ℕ) → put-natural-lts.Need-add-put-2 (
 ) (put-natural-at t) put-natural.Post
 put-natural-add-put-2 t c = omega arith
 
--- src/lib.rt:55:9
 put-natural-put-requires-2 : (t : ℕ) → put-natural-lts.Need-put-requires-2 (
   put-reads.Asked,
   put-reads.Learnt,
@@ -99,7 +91,6 @@ put-natural-put-requires-2 : (t : ℕ) → put-natural-lts.Need-put-requires-2 (
 ) (put-natural-at t) put-natural.Post
 put-natural-put-requires-2 t c κs = search needs
 
--- src/lib.rt:56:9
 put-natural-add-result-2 : (t : ℕ) → put-natural-lts.Need-add-result-2 (
   put-reads.Asked,
   put-reads.Learnt,
@@ -108,7 +99,6 @@ put-natural-add-result-2 : (t : ℕ) → put-natural-lts.Need-add-result-2 (
 ) (put-natural-at t) put-natural.Post
 put-natural-add-result-2 t c = omega (arith, digits-room (c .before .before .before .before .before .before .before .before .before .before .args .v) (omega arith), c .before .before .before .before .before .before .put-natural .ensures .stops)
 
--- src/lib.rt:46:1
 put-natural-same-length : (t : ℕ) → put-natural-lts.Need-same-length (
   put-reads.Asked,
   put-reads.Learnt,
@@ -117,7 +107,6 @@ put-natural-same-length : (t : ℕ) → put-natural-lts.Need-same-length (
 ) (put-natural-at t) put-natural.Post
 put-natural-same-length t c = c .before .before .put .kept .0
 
--- src/lib.rt:46:1
 put-natural-returns : (t : ℕ) → put-natural-lts.Need-returns (
   put-reads.Asked,
   put-reads.Learnt,
@@ -128,7 +117,6 @@ put-natural-returns t c =
     let s = c .before .before .before .before .before .before in
     put-digit (now (s .args .buf)) (c .before .before .put .last .0) (s .args .at) (s .args .v) (omega arith) (c .before .before .put .ensures)
 
--- src/lib.rt:46:1
 put-natural-same-length-2 : (t : ℕ) → put-natural-lts.Need-same-length-2 (
   put-reads.Asked,
   put-reads.Learnt,
@@ -137,7 +125,6 @@ put-natural-same-length-2 : (t : ℕ) → put-natural-lts.Need-same-length-2 (
 ) (put-natural-at t) put-natural.Post
 put-natural-same-length-2 t c = c .before .before .put2 .kept .0 ∙ c .before .before .before .before .before .before .put-natural .kept .0
 
--- src/lib.rt:46:1
 put-natural-returns-2 : (t : ℕ) → put-natural-lts.Need-returns-2 (
   put-reads.Asked,
   put-reads.Learnt,

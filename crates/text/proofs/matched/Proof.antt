@@ -1,6 +1,5 @@
 -- `text::matched` meets its contract. The invariant: the first i bytes of the key stand there. Assumes nothing.
-use Prim.Native.Nat.{ℕ, _+_, _-_, _≤_, _<_}
-use mathlib.Core.Path.{_≡_, _∙_, ap, sym, refl}
+use Prim.Native.Nat.{_+_, _-_, _≤_}
 use native.Mathlib.Omega.{arith}
 use borrow.Author.Needs.{needs}
 use lib.ListN.{length, take}
@@ -9,8 +8,6 @@ use Rattle.text.specs.Form.{Stands}
 use Rattle.text.proofs.Numbers.{key-start, key-step}
 use Rattle.text.proofs.matched.Statement.{statement}
 use Rattle.text.proofs.matched.Tie as tie
-use Rattle.text.proofs.matched.Reads as reads
-use Rattle.text.proofs.matched.Lts as lts
 
 abbrev Inv-loop : tie.InvT-loop
 Inv-loop t start key i₀ i = (i ≤ length key) × Stands t start (start + i) (take i key)
@@ -18,50 +15,39 @@ Inv-loop t start key i₀ i = (i ≤ length key) × Stands t start (start + i) (
 abbrev μ-loop : tie.MeasureT-loop
 μ-loop t start key i₀ i = length key - i
 
--- src/lib.rt:101:5
 loop-holds : tie.Need-loop-holds Inv-loop μ-loop
 loop-holds c = (omega arith, key-start (now (c .args .t)) (now (c .args .key)) (c .args .start) (c .pre))
 
--- src/lib.rt:102:12
 add-if1 : tie.Need-add-if1 Inv-loop μ-loop
 add-if1 c = search needs
 
--- src/lib.rt:103:13
 returns : tie.Need-returns Inv-loop μ-loop
 returns c = record { most = omega arith; stands = c .before .before .loop .inv .1; ends = λ h g e. omega arith }
 
--- src/lib.rt:105:14
 add-if2 : tie.Need-add-if2 Inv-loop μ-loop
 add-if2 c = search needs
 
--- src/lib.rt:105:12
 shared-slice-read-if2 : tie.Need-shared-slice-read-if2 Inv-loop μ-loop
 shared-slice-read-if2 c = search needs
 
--- src/lib.rt:105:28
 shared-slice-read-if2-2 : tie.Need-shared-slice-read-if2-2 Inv-loop μ-loop
 shared-slice-read-if2-2 c = search needs
 
--- src/lib.rt:106:13
 returns-2 : tie.Need-returns-2 Inv-loop μ-loop
 returns-2 c = record { most = omega arith; stands = c .before .before .before .before .before .loop .inv .1; ends = λ h g e. c .if2 .taken e }
 
--- src/lib.rt:108:9
 add-i : tie.Need-add-i Inv-loop μ-loop
 add-i c = search needs
 
--- src/lib.rt:101:5
 loop-less : tie.Need-loop-less Inv-loop μ-loop
 loop-less c = search needs
 
--- src/lib.rt:101:5
 loop-again : tie.Need-loop-again Inv-loop μ-loop
 loop-again c = (
   omega arith,
   key-step (now (c .before .before .before .before .before .before .args .t)) (now (c .before .before .before .before .before .before .args .key)) (c .before .before .before .before .before .before .args .start) (c .before .before .before .before .before .loop .i) (omega arith) (omega arith) (c .if2 .left) (c .before .before .before .before .before .loop .inv .1),
 )
 
--- src/lib.rt:96:1
 returns-3 : tie.Need-returns-3 Inv-loop μ-loop
 returns-3 c = record { most = omega arith; stands = c .before .loop .inv .1; ends = λ h g e. omega arith }
 

@@ -2,18 +2,13 @@
 use Rattle.text.proofs.Signs.{down-fits, down-is}
 use Rattle.text.proofs.minus_one_less.Statement.{statement}
 use Rattle.text.proofs.minus_one_less.Tie as tie
-use Rattle.text.proofs.minus_one_less.Reads as reads
-use Rattle.text.proofs.minus_one_less.Lts as lts
 
--- src/lib.rt:75:11
 cast-result : tie.Need-cast-result
 cast-result c = record { sfits = c .pre }
 
--- src/lib.rt:75:5
 sub-result : tie.Need-sub-result
 sub-result c = down-fits (c .args .m) (c .pre)
 
--- src/lib.rt:71:1
 returns : tie.Need-returns
 returns c = down-is (c .args .m) (c .pre)
 

@@ -1,6 +1,5 @@
 -- `text::read_natural` meets its contract. The invariant: the digits of v, which is in the range, stand from the start. Assumes nothing.
-use Prim.Native.Nat.{ℕ, _+_, _-_, _*_, _≤_, _<_}
-use mathlib.Core.Path.{_≡_, _∙_, ap, sym, refl}
+use Prim.Native.Nat.{ℕ, _-_, _≤_}
 use native.Mathlib.Omega.{arith}
 use borrow.Author.Needs.{needs}
 use mathlib.Core.List.{List}
@@ -13,9 +12,6 @@ use Rattle.text.proofs.Numbers.{broken-first, broken-later, first-digit
 use mathlib.Core.Logic.{inl, inr}
 use Rattle.text.proofs.read_natural.Statement.{statement}
 use Rattle.text.proofs.read_natural.Tie as tie
-use Rattle.text.proofs.read_natural.Reads as reads
-use Rattle.text.proofs.read_natural.Lts as lts
-use Rattle.text.proofs.digit.Reads as digit-reads
 
 record Reading (t : List ℕ) (start least most end v i : ℕ) : Type 0 where
   asked : Asked t start least most end
@@ -29,47 +25,39 @@ Inv-loop t start least most end first v₀ i₀ v i = Reading t start least most
 abbrev μ-loop : tie.MeasureT-loop
 μ-loop t start least most end first v₀ i₀ v i = length t - i
 
--- src/lib.rt:133:9
 returns : tie.Need-returns Inv-loop μ-loop
 returns c =
     let a = c .before .before .args in
     broken-first (now (a .t)) (a .start) (a .least) (a .most) (a .end) (c .before .before .pre .range) (c .before .before .pre .low) (c .before .before .pre .within)
     (λ inside g. absurd (omega arith))
 
--- src/lib.rt:135:23
 shared-slice-read-digit : tie.Need-shared-slice-read-digit Inv-loop μ-loop
 shared-slice-read-digit c = search needs
 
--- src/lib.rt:135:9
 digit-requires : tie.Need-digit-requires Inv-loop μ-loop
 digit-requires c κs = search needs
 
--- src/lib.rt:137:9
 returns-2 : tie.Need-returns-2 Inv-loop μ-loop
 returns-2 c =
     let a = c .before .before .before .before .before .args in
     broken-first (now (a .t)) (a .start) (a .least) (a .most) (a .end) (c .before .before .before .before .before .pre .range) (c .before .before .before .before .before .pre .low) (c .before .before .before .before .before .pre .within)
     (λ inside g. absurd (c .before .digit .ensures .other (omega arith) (g .low) (g .high)))
 
--- src/lib.rt:140:9
 returns-3 : tie.Need-returns-3 Inv-loop μ-loop
 returns-3 c =
     let a = c .before .before .before .before .before .before .args in
     broken-first (now (a .t)) (a .start) (a .least) (a .most) (a .end) (c .before .before .before .before .before .before .pre .range) (c .before .before .before .before .before .before .pre .low) (c .before .before .before .before .before .before .pre .within)
     (λ inside g. inl (omega (arith, c .before .before .digit .ensures .is (omega arith))))
 
--- src/lib.rt:143:9
 returns-4 : tie.Need-returns-4 Inv-loop μ-loop
 returns-4 c =
     let a = c .before .before .before .before .before .before .before .args in
     broken-first (now (a .t)) (a .start) (a .least) (a .most) (a .end) (c .before .before .before .before .before .before .before .pre .range) (c .before .before .before .before .before .before .before .pre .low) (c .before .before .before .before .before .before .before .pre .within)
     (λ inside g. inr (omega (arith, c .before .before .before .digit .ensures .is (omega arith))))
 
--- src/lib.rt:146:17
 add-i : tie.Need-add-i Inv-loop μ-loop
 add-i c = search needs
 
--- src/lib.rt:147:5
 loop-holds : tie.Need-loop-holds Inv-loop μ-loop
 loop-holds c =
     let a = c .before .before .before .before .before .before .before .args in
@@ -80,15 +68,12 @@ loop-holds c =
       stands = first-digit (now (a .t)) (a .start) (c .before .before .before .digit .result) (omega arith) (omega arith) (c .before .before .before .digit .ensures .is (omega arith));
     }
 
--- src/lib.rt:148:12
 shared-slice-read-if5 : tie.Need-shared-slice-read-if5 Inv-loop μ-loop
 shared-slice-read-if5 c = search needs
 
--- src/lib.rt:149:38
 add-t18 : tie.Need-add-t18 Inv-loop μ-loop
 add-t18 c = search needs
 
--- src/lib.rt:149:13
 returns-5 : tie.Need-returns-5 Inv-loop μ-loop
 returns-5 c =
     let a = c .before .before .before .before .before .before .before .before .before .before .before .args in
@@ -98,15 +83,12 @@ returns-5 c =
       stands = number-ends (now (a .t)) (a .start) (l .i) (a .end) (dec (l .v)) (omega arith) (c .if5 .taken) (l .inv .stands);
     }
 
--- src/lib.rt:151:23
 shared-slice-read-digit-2 : tie.Need-shared-slice-read-digit-2 Inv-loop μ-loop
 shared-slice-read-digit-2 c = search needs
 
--- src/lib.rt:151:13
 digit-requires-2 : tie.Need-digit-requires-2 Inv-loop μ-loop
 digit-requires-2 c κs = search needs
 
--- src/lib.rt:153:13
 returns-6 : tie.Need-returns-6 Inv-loop μ-loop
 returns-6 c =
     let a = c .before .before .before .before .before .before .before .before .before .before .before .before .before .before .args in
@@ -114,7 +96,6 @@ returns-6 c =
     broken-later (now (a .t)) (a .start) (l .i) (l .v) (a .least) (a .most) (a .end) (l .inv .asked .stop) (l .inv .low) (l .inv .high) (l .inv .stands)
     (λ inside e. c .before .before .before .if5 .left e) (λ inside g h. absurd (c .before .digit2 .ensures .other (omega arith) (g .low) (g .high)))
 
--- src/lib.rt:156:13
 returns-7 : tie.Need-returns-7 Inv-loop μ-loop
 returns-7 c =
     let a = c .before .before .before .before .before .before .before .before .before .before .before .before .before .before .before .args in
@@ -122,7 +103,6 @@ returns-7 c =
     broken-later (now (a .t)) (a .start) (l .i) (l .v) (a .least) (a .most) (a .end) (l .inv .asked .stop) (l .inv .low) (l .inv .high) (l .inv .stands)
     (λ inside e. c .before .before .before .before .if5 .left e) (λ inside g h. omega arith)
 
--- src/lib.rt:159:13
 returns-8 : tie.Need-returns-8 Inv-loop μ-loop
 returns-8 c =
     let a = c .before .before .before .before .before .before .before .before .before .before .before .before .before .before .before .before .args in
@@ -130,7 +110,6 @@ returns-8 c =
     broken-later (now (a .t)) (a .start) (l .i) (l .v) (a .least) (a .most) (a .end) (l .inv .asked .stop) (l .inv .low) (l .inv .high) (l .inv .stands)
     (λ inside e. c .before .before .before .before .before .if5 .left e) (λ inside g h. omega (arith, c .before .before .before .digit2 .ensures .is (omega arith)))
 
--- src/lib.rt:162:13
 returns-9 : tie.Need-returns-9 Inv-loop μ-loop
 returns-9 c =
     let a = c .before .before .before .before .before .before .before .before .before .before .before .before .before .before .before .before .before .args in
@@ -138,23 +117,18 @@ returns-9 c =
     broken-later (now (a .t)) (a .start) (l .i) (l .v) (a .least) (a .most) (a .end) (l .inv .asked .stop) (l .inv .low) (l .inv .high) (l .inv .stands)
     (λ inside e. c .before .before .before .before .before .before .if5 .left e) (λ inside g h. omega (arith, c .before .before .before .before .digit2 .ensures .is (omega arith)))
 
--- src/lib.rt:164:13
 mul-v : tie.Need-mul-v Inv-loop μ-loop
 mul-v c = search needs
 
--- src/lib.rt:164:13
 add-v : tie.Need-add-v Inv-loop μ-loop
 add-v c = search needs
 
--- src/lib.rt:165:9
 add-i-2 : tie.Need-add-i-2 Inv-loop μ-loop
 add-i-2 c = search needs
 
--- src/lib.rt:147:5
 loop-less : tie.Need-loop-less Inv-loop μ-loop
 loop-less c = search needs
 
--- src/lib.rt:147:5
 loop-again : tie.Need-loop-again Inv-loop μ-loop
 loop-again c =
     let a = c .before .before .before .before .before .before .before .before .before .before .before .before .before .before .before .before .before .args in
@@ -166,7 +140,6 @@ loop-again c =
       stands = next-digit (now (a .t)) (a .start) (l .i) (l .v) (c .before .before .before .before .digit2 .result) (omega arith) (omega arith) (omega arith) (c .before .before .before .before .digit2 .ensures .is (omega arith)) (l .inv .stands);
     }
 
--- src/lib.rt:128:1
 returns-10 : tie.Need-returns-10 Inv-loop μ-loop
 returns-10 c =
     let a = c .before .before .before .before .before .before .before .before .before .args in

@@ -14,89 +14,70 @@ use Rattle.text.proofs.Lines.{natural-read, natural-broken}
 use borrow.Author.Needs.{needs}
 use Rattle.text.proofs.read_whole.Statement.{statement}
 use Rattle.text.proofs.read_whole.Tie as tie
-use Rattle.text.proofs.read_whole.Reads as reads
-use Rattle.text.proofs.read_whole.Lts as lts
-use Rattle.text.proofs.minus_one_less.Reads as minus-one-less-reads
-use Rattle.text.proofs.read_natural.Reads as read-natural-reads
 
--- src/lib.rt:195:9
 returns : tie.Need-returns
 returns c =
     let a = c .before .before .args in
     plus-broken (now (a .t)) (a .start) (a .start) (a .below) (a .most) (a .end) (λ h e. omega arith) (c .before .before .pre .within)
     (broken-first (now (a .t)) (a .start) 0 (a .most) (a .end) (omega arith) (omega arith) (c .before .before .pre .within) (λ h g. absurd (omega arith)))
 
--- src/lib.rt:197:8
 shared-slice-read-if2 : tie.Need-shared-slice-read-if2
 shared-slice-read-if2 c = omega arith
 
--- src/lib.rt:198:38
 add-read-natural : tie.Need-add-read-natural
 add-read-natural c = omega arith
 
--- src/lib.rt:198:22
 read-natural-requires : tie.Need-read-natural-requires
-read-natural-requires c κs = record { within = omega arith; low = omega arith; range = c .before .before .before .before .pre .some; stop = c .before .before .before .before .pre .stop }
+read-natural-requires c κs = record { within = omega arith; low = omega arith; range = omega (arith, c .before .before .before .before .pre .some); stop = c .before .before .before .before .pre .stop }
 
--- src/lib.rt:199:28
 enum-known-v : tie.Need-enum-known-v
 enum-known-v c = search needs
 
--- src/lib.rt:199:65
 sub-minus-one-less : tie.Need-sub-minus-one-less
 sub-minus-one-less c =
     let a = c .before .before .before .before .before .before .before .before .args in
-    let r = natural-read (number (plain 1 (a .below)) (a .end)) (now (a .t)) (a .start + 1) (c .before .before .before .read-natural .result) (c .before .v .given .0 .0) (c .before .v .given .0 .1 .0) (c .before .v .given .1) (c .before .before .before .read-natural .ensures) in
-    r .taken .0
+    let r = natural-read _ (now (a .t)) (a .start + 1) (c .before .before .before .read-natural .result) (c .before .v .given .0 .0) (c .before .v .given .0 .1 .0) (c .before .v .given .1) (c .before .before .before .read-natural .ensures) in
+    omega (arith, r .taken .0)
 
--- src/lib.rt:199:50
 minus-one-less-requires : tie.Need-minus-one-less-requires
 minus-one-less-requires c κs =
     let a = c .before .before .before .before .before .before .before .before .args in
-    let r = natural-read (number (plain 1 (a .below)) (a .end)) (now (a .t)) (a .start + 1) (c .before .before .before .read-natural .result) (c .before .v .given .0 .0) (c .before .v .given .0 .1 .0) (c .before .v .given .1) (c .before .before .before .read-natural .ensures) in
+    let r = natural-read _ (now (a .t)) (a .start + 1) (c .before .before .before .read-natural .result) (c .before .v .given .0 .0) (c .before .v .given .0 .1 .0) (c .before .v .given .1) (c .before .before .before .read-natural .ensures) in
     omega (arith, r .taken .0, r .taken .1, c .before .before .before .before .before .before .before .before .pre .negative)
 
--- src/lib.rt:200:28
 enum-known-k : tie.Need-enum-known-k
 enum-known-k c = search needs
 
--- src/lib.rt:198:9
 returns-2 : tie.Need-returns-2
 returns-2 c =
     let a = c .before .before .before .before .before .before .before .before .before .args in
-    let r = natural-read (number (plain 1 (a .below)) (a .end)) (now (a .t)) (a .start + 1) (c .before .before .before .before .read-natural .result) (c .before .before .v .given .0 .0) (c .before .before .v .given .0 .1 .0) (c .before .before .v .given .1) (c .before .before .before .before .read-natural .ensures) in
+    let r = natural-read _ (now (a .t)) (a .start + 1) (c .before .before .before .before .read-natural .result) (c .before .before .v .given .0 .0) (c .before .before .v .given .0 .1 .0) (c .before .before .v .given .1) (c .before .before .before .before .read-natural .ensures) in
     let m = minus-read (now (a .t)) (a .start) (c .before .before .v .given .0 .1 .0) (a .below) (a .most) (a .end) (c .before .before .v .given .0 .0) (omega arith) (c .before .before .before .before .before .if2 .taken) r in
     let small : c .before .before .v .given .0 .0 - 1 < 2 ^ 63 = omega (arith, r .taken .0, r .taken .1, c .before .before .before .before .before .before .before .before .before .pre .negative) in
     subst (ReadAs (number (signed (a .below) (a .most)) (a .end)) (now (a .t)) (a .start) (c .before .before .v .given .0 .1 .0))
     (sym (ap (λ (z : ℤ). toZ w64 (ofZ w64 z)) (c .minus-one-less .ensures) ∙ toZ-ofZ w64 (negsuc (c .before .before .v .given .0 .0 - 1)) (record { sfits = small }))) m
 
--- src/lib.rt:198:9
 returns-3 : tie.Need-returns-3
 returns-3 c =
     let a = c .before .before .before .before .before .before .before .before .args in
     minus-broken (now (a .t)) (a .start) (c .before .k .given .0 .0) (a .below) (a .most) (a .end) (omega arith) (c .before .before .before .before .if2 .taken)
     (natural-broken (number (plain 1 (a .below)) (a .end)) (now (a .t)) (a .start + 1) (c .before .before .before .read-natural .result) (c .before .k .given .0 .0) (c .before .k .given .1) (c .before .before .before .read-natural .ensures))
 
--- src/lib.rt:203:11
 read-natural-requires-2 : tie.Need-read-natural-requires-2
 read-natural-requires-2 c κs = record { within = c .before .before .before .before .pre .within; low = omega arith; range = omega arith; stop = c .before .before .before .before .pre .stop }
 
--- src/lib.rt:204:24
 enum-known-v-2 : tie.Need-enum-known-v-2
 enum-known-v-2 c = search needs
 
--- src/lib.rt:204:46
 cast-t23 : tie.Need-cast-t23
 cast-t23 c =
     let a = c .before .before .before .before .before .before .before .before .args in
     let r = natural-read (number (plain 0 (a .most)) (a .end)) (now (a .t)) (a .start) (c .before .before .before .read-natural2 .result) (c .before .v2 .given .0 .0) (c .before .v2 .given .0 .1 .0) (c .before .v2 .given .1) (c .before .before .before .read-natural2 .ensures) in
     record { sfits = omega (arith, r .taken .1, c .before .before .before .before .before .before .before .before .pre .positive) }
 
--- src/lib.rt:205:24
 enum-known-k-2 : tie.Need-enum-known-k-2
 enum-known-k-2 c = search needs
 
--- src/lib.rt:190:1
 returns-4 : tie.Need-returns-4
 returns-4 c =
     let a = c .before .before .before .before .before .before .before .before .args in
@@ -105,7 +86,6 @@ returns-4 c =
     (sym (toZ-pos w64 (c .before .v2 .given .0 .0) (omega (arith, r .taken .1, c .before .before .before .before .before .before .before .before .pre .positive))))
     (plus-read (now (a .t)) (a .start) (c .before .v2 .given .0 .1 .0) (a .below) (a .most) (a .end) (c .before .v2 .given .0 .0) r)
 
--- src/lib.rt:190:1
 returns-5 : tie.Need-returns-5
 returns-5 c =
     let a = c .before .before .before .before .before .before .before .before .args in

@@ -3,19 +3,14 @@ use native.Mathlib.Omega.{arith}
 use Rattle.text.proofs.Signs.{less-fits, less-is, negative-is}
 use Rattle.text.proofs.short_of_minus_one.Statement.{statement}
 use Rattle.text.proofs.short_of_minus_one.Tie as tie
-use Rattle.text.proofs.short_of_minus_one.Reads as reads
-use Rattle.text.proofs.short_of_minus_one.Lts as lts
 
--- src/lib.rt:67:6
 sub-result : tie.Need-sub-result
 sub-result c = less-fits (c .args .z) (c .pre) (c .fits .z)
 
--- src/lib.rt:67:5
 cast-result : tie.Need-cast-result
 cast-result c =
     rw (less-is (c .args .z) (c .pre) (c .fits .z)) (tt, omega (arith, c .fits .z .sfits))
 
--- src/lib.rt:63:1
 returns : tie.Need-returns
 returns c = rw (less-is (c .args .z) (c .pre) (c .fits .z)) (negative-is (c .args .z) (c .pre))
 
