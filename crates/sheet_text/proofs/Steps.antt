@@ -235,7 +235,7 @@ module _ (f : Figures) (fit : InRange f) (i : ℕ) (h : i < 15) (old mid : List 
   put-step new q b =
       rw (es-is, zs-is) (lines-put (take i schema) (entryAt i) (take i (valuesOf f)) (valueAt f i) old mid new p q (fit-take i schema (valuesOf f) fit) a b)
 
-  pub put-room : p + length (lineOf (entryAt i .key) (valueAt f i)) < 2 ^ 64
+  pub put-room : p + length (lineOf (entryAt i .key) (valueAt f i)) ≤ 465
   unfolding InRange
   put-room =
       let text : linesOf (take (suc i) schema) (take (suc i) (valuesOf f)) ≡ linesOf (take i schema) (take i (valuesOf f)) ++ lineOf (entryAt i .key) (valueAt f i) =

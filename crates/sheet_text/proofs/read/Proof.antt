@@ -1,9 +1,9 @@
 -- `sheet_text::read` meets its contract: one fact a line, each from the one before. Assumes nothing.
-use mathlib.Core.Path.{refl}
+use mathlib.Core.Path.{refl, sym, _∙_, ap}
 use mathlib.Core.List.{List, [], _∷_, _++_}
 use native.Mathlib.Omega.{arith}
 use lib.IntN.{ℤ, pos}
-use lib.ListN.{take}
+use lib.ListN.{length, take}
 use denote.Ref.{now}
 use mir.Syntax.{w64}
 use mir.Val.{toZ, ofZ}
@@ -28,8 +28,9 @@ values1 c = (pos (c .before .a1 .given .0 .0)) ∷ []
 fact1 : (c : tie.After-known-told) → ReadAs (lines (take 1 schema)) (now (c .before .before .before .before .before .before .args .t)) 0 (c .before .a1 .given .0 .1 .0) (values1 c)
 unfolding schema
 fact1 c =
-    let t = now (c .before .before .before .before .before .before .args .t) in
-    read-step t 0 (omega arith) [] 0 (fact0 (c .before .before .before .before .before .before)) (pos (c .before .a1 .given .0 .0)) (c .before .a1 .given .0 .1 .0)
+    let s = c .before .before .before .before .before .before in
+    let t = now (s .args .t) in
+    read-step t 0 (omega arith) [] 0 (fact0 s) (pos (c .before .a1 .given .0 .0)) (c .before .a1 .given .0 .1 .0)
     (natural-read (line (entryAt 0 .key) (entryAt 0 .range)) t 0 (c .before .before .before .read-line .result) (c .before .a1 .given .0 .0) (c .before .a1 .given .0 .1 .0) (c .before .a1 .given .1) (c .before .before .before .read-line .ensures))
 
 abbrev values2 : (c : tie.After-known-told2) → List ℤ
@@ -186,7 +187,9 @@ slice-aggregate-read-line : tie.Need-slice-aggregate-read-line
 slice-aggregate-read-line c = search needs
 
 read-line-requires : tie.Need-read-line-requires
-read-line-requires c κs = asked (now (c .before .before .args .t)) 0 (fact0 (c .before .before) .stands .within)
+read-line-requires c κs =
+    let s = c .before .before in
+    asked (now (s .args .t)) 0 (fact0 s .stands .within)
 
 enum-known-a1 : tie.Need-enum-known-a1
 enum-known-a1 c = search needs
@@ -200,11 +203,12 @@ wrong-at-requires c κs = search needs
 returns : tie.Need-returns
 unfolding schema
 returns c =
-    let t = now (c .before .before .before .before .before .before .args .t) in
+    let s = c .before .before .before .before .before .before in
+    let t = now (s .args .t) in
     record {
       number = refl;
       device = refl;
-      place = read-refused t 0 (omega arith) [] 0 (fact0 (c .before .before .before .before .before .before)) (c .wrong-at .result)
+      place = read-refused t 0 (omega arith) [] 0 (fact0 s) (c .wrong-at .result)
           (natural-wrong (line (entryAt 0 .key) (entryAt 0 .range)) t 0 (c .wrong-at .result) (c .before .before .before .read-line .result) (c .before .before .match .keys2) (c .wrong-at .ensures) (c .before .before .before .read-line .ensures));
     }
 
