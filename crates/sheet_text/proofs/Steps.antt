@@ -1,0 +1,316 @@
+-- The sheet line by line, over its table: the laws of `text` at the table `schema`, whatever the line. Assumes nothing.
+use Prim.Native.Nat.{ℕ, zero, suc, _+_, _^_, _≤_, _<_}
+use mathlib.Core.Path.{_≡_, refl, sym, ap, _∙_, subst}
+use mathlib.Core.List.{List, [], _∷_, _++_, map}
+use native.Mathlib.Omega.{arith}
+use lib.ListN.{length, getD, take, drop, length-append}
+use lib.Seq.{sets, length-sets, sets-eq, length-take-le, take-suc, take-all, split-at}
+use lib.IntN.{ℤ, pos, negsuc}
+use mir.Syntax.{w64}
+use mir.Val.{SFits, toZ, ofZ}
+use mir.ValLaws.{toZ-ofZ}
+use denote.Enum.Declared.{tagOf}
+use Rattle.text.proofs.Natural as NaturalType
+use Rattle.text.proofs.Whole as WholeType
+use Rattle.text.specs.declared.Natural.{Natural}
+use Rattle.text.specs.declared.Natural.the-variants as Natural
+use Rattle.text.specs.declared.Whole.{Whole}
+use Rattle.text.specs.declared.Whole.the-variants as Whole
+use Rattle.text.specs.Form.{Form, Of, ReadAs, Broken, RefusedAt}
+use Rattle.text.specs.Decimal.{Fit, plain}
+use Rattle.text.specs.Line.{Entry, lineOf, line, linesOf, AllFit, lines}
+use Rattle.text.specs.Answer.{Put, NaturalIn, WholeIn, wrongAt, wholeWrongAt, Asked, AskedSigned}
+use Rattle.text.proofs.Forms.{refused-alike}
+use Rattle.text.proofs.Tables.{lines-read, lines-broken, lines-past, lines-all, lines-put, lines-append, lines-longest, lines-snoc, Wide, longest}
+use Rattle.figures.specs.declared.Figures.{Figures}
+use Rattle.sheet_text.specs.Sheet.{schema, valuesOf, textOf, InRange, IsSheet, unsigned64, signed64}
+use Rattle.sheet_text.specs.Read.{Accepted}
+use Rattle.sheet_text.specs.Write.{Done, Short}
+use Rattle.sheet_text.specs.declared.WriteAnswer.the-variants as WriteAnswer
+
+abbrev blank : Entry
+blank = record { key = []; range = plain 0 0 }
+
+-- The line at a place of the table, and the value there.
+abbrev pub entryAt : ℕ → Entry
+entryAt i = getD schema i blank
+
+abbrev pub valueAt : Figures → ℕ → ℤ
+valueAt f i = getD (valuesOf f) i (pos 0)
+
+schema-length : length schema ≡ 15
+unfolding schema
+schema-length = refl
+
+values-length : (f : Figures) → length (valuesOf f) ≡ 15
+unfolding valuesOf
+values-length f = refl
+
+-- ---- lists of values that fit
+
+fit-take : (n : ℕ) (es : List Entry) (zs : List ℤ) → AllFit es zs → AllFit (take n es) (take n zs)
+fit-take zero es zs h = tt
+fit-take (suc n) [] [] h = tt
+fit-take (suc n) [] (z ∷ zs) h = absurd h
+fit-take (suc n) (e ∷ es) [] h = absurd h
+fit-take (suc n) (e ∷ es) (z ∷ zs) h = (h .0, fit-take n es zs (h .1))
+
+fit-drop : (n : ℕ) (es : List Entry) (zs : List ℤ) → AllFit es zs → AllFit (drop n es) (drop n zs)
+fit-drop zero es zs h = h
+fit-drop (suc n) [] [] h = tt
+fit-drop (suc n) [] (z ∷ zs) h = absurd h
+fit-drop (suc n) (e ∷ es) [] h = absurd h
+fit-drop (suc n) (e ∷ es) (z ∷ zs) h = fit-drop n es zs (h .1)
+
+fit-at : (es : List Entry) (zs : List ℤ) (i : ℕ) → AllFit es zs → i < length es → Fit (getD es i blank .range) (getD zs i (pos 0))
+fit-at [] zs i h l = absurd (omega arith)
+fit-at (e ∷ es) [] i h l = absurd h
+fit-at (e ∷ es) (z ∷ zs) zero h l = h .0
+fit-at (e ∷ es) (z ∷ zs) (suc i) h l = fit-at es zs i (h .1) (omega arith)
+
+fit-length : (es : List Entry) (zs : List ℤ) → AllFit es zs → length zs ≡ length es
+fit-length [] [] h = refl
+fit-length [] (z ∷ zs) h = absurd h
+fit-length (e ∷ es) [] h = absurd h
+fit-length (e ∷ es) (z ∷ zs) h = ap suc (fit-length es zs (h .1))
+
+wide-take : (n : ℕ) (es : List Entry) → Wide es → Wide (take n es)
+wide-take zero es w = tt
+wide-take (suc n) [] w = tt
+wide-take (suc n) (e ∷ es) w = (w .0, wide-take n es (w .1))
+
+longest-take : (n : ℕ) (es : List Entry) → longest (take n es) ≤ longest es
+longest-take zero es = omega arith
+longest-take (suc n) [] = omega arith
+longest-take (suc n) (e ∷ es) = omega (arith, longest-take n es)
+
+-- No sheet is longer than 465 bytes.
+schema-wide : Wide schema
+unfolding schema
+schema-wide = omega arith
+
+schema-longest : longest schema ≡ 465
+unfolding schema
+schema-longest = refl
+
+-- The sheet of zeros: some sheet goes on with any lines.
+abbrev zeros : List ℤ
+zeros =
+    pos 0 ∷
+    pos 0 ∷
+    pos 0 ∷
+    pos 0 ∷
+    pos 0 ∷
+    pos 0 ∷
+    pos 0 ∷
+    pos 0 ∷
+    pos 0 ∷
+    pos 0 ∷
+    pos 0 ∷
+    pos 0 ∷
+    pos 0 ∷
+    pos 0 ∷
+    pos 0 ∷
+    []
+
+zeros-fit : AllFit schema zeros
+unfolding schema
+zeros-fit = omega arith
+
+-- ---- a sheet's text is the table's
+
+abbrev pub nat : ℤ → ℕ
+nat (pos n) = n
+nat (negsuc n) = 0
+
+figuresOf : List ℤ → Figures
+figuresOf zs = record {
+  «intervals» = nat (getD zs 0 (pos 0));
+  «devices» = nat (getD zs 1 (pos 0));
+  «counted» = nat (getD zs 2 (pos 0));
+  «replaced» = nat (getD zs 3 (pos 0));
+  «excluded» = nat (getD zs 4 (pos 0));
+  «methane_l» = nat (getD zs 5 (pos 0));
+  «destroyed_l» = nat (getD zs 6 (pos 0));
+  «uncombusted_l» = nat (getD zs 7 (pos 0));
+  «baseline_mg» = nat (getD zs 8 (pos 0));
+  «co2_mg» = nat (getD zs 9 (pos 0));
+  «uncombusted_mg» = nat (getD zs 10 (pos 0));
+  «fuel_mg» = nat (getD zs 11 (pos 0));
+  «reduction_mg» = getD zs 12 (pos 0);
+  «tonnes» = getD zs 13 (pos 0);
+  «credits» = nat (getD zs 14 (pos 0));
+}
+
+unsigned-is : (z : ℤ) → Fit unsigned64 z → pos (nat z) ≡ z
+unsigned-is (pos n) h = refl
+unsigned-is (negsuc n) h = absurd (omega arith)
+
+-- The first n values of an index function.
+tab : ℕ → (ℕ → ℤ) → List ℤ
+tab zero f = []
+tab (suc n) f = f 0 ∷ tab n (λ i. f (suc i))
+
+listed : (zs : List ℤ) → zs ≡ tab (length zs) (λ i. getD zs i (pos 0))
+unfolding tab
+listed [] = refl
+listed (z ∷ zs) = ap (λ (l : List ℤ). z ∷ l) (listed zs)
+
+pub signed-fit : (z : ℤ) → SFits w64 z → Fit signed64 z
+signed-fit (pos n) h = (omega arith, omega (arith, h .sfits))
+signed-fit (negsuc n) h = h .sfits
+
+back-values : (zs : List ℤ) → AllFit schema zs → valuesOf (figuresOf zs) ≡ zs
+unfolding schema valuesOf figuresOf tab
+back-values zs h =
+    let e : zs ≡ tab 15 (λ i. getD zs i (pos 0)) = listed zs ∙ ap (λ (n : ℕ). tab n (λ i. getD zs i (pos 0))) (fit-length schema zs h) in
+    let u0 : pos (nat (getD zs 0 (pos 0))) ≡ getD zs 0 (pos 0) = unsigned-is (getD zs 0 (pos 0)) (fit-at schema zs 0 h (omega arith)) in
+    let u1 : pos (nat (getD zs 1 (pos 0))) ≡ getD zs 1 (pos 0) = unsigned-is (getD zs 1 (pos 0)) (fit-at schema zs 1 h (omega arith)) in
+    let u2 : pos (nat (getD zs 2 (pos 0))) ≡ getD zs 2 (pos 0) = unsigned-is (getD zs 2 (pos 0)) (fit-at schema zs 2 h (omega arith)) in
+    let u3 : pos (nat (getD zs 3 (pos 0))) ≡ getD zs 3 (pos 0) = unsigned-is (getD zs 3 (pos 0)) (fit-at schema zs 3 h (omega arith)) in
+    let u4 : pos (nat (getD zs 4 (pos 0))) ≡ getD zs 4 (pos 0) = unsigned-is (getD zs 4 (pos 0)) (fit-at schema zs 4 h (omega arith)) in
+    let u5 : pos (nat (getD zs 5 (pos 0))) ≡ getD zs 5 (pos 0) = unsigned-is (getD zs 5 (pos 0)) (fit-at schema zs 5 h (omega arith)) in
+    let u6 : pos (nat (getD zs 6 (pos 0))) ≡ getD zs 6 (pos 0) = unsigned-is (getD zs 6 (pos 0)) (fit-at schema zs 6 h (omega arith)) in
+    let u7 : pos (nat (getD zs 7 (pos 0))) ≡ getD zs 7 (pos 0) = unsigned-is (getD zs 7 (pos 0)) (fit-at schema zs 7 h (omega arith)) in
+    let u8 : pos (nat (getD zs 8 (pos 0))) ≡ getD zs 8 (pos 0) = unsigned-is (getD zs 8 (pos 0)) (fit-at schema zs 8 h (omega arith)) in
+    let u9 : pos (nat (getD zs 9 (pos 0))) ≡ getD zs 9 (pos 0) = unsigned-is (getD zs 9 (pos 0)) (fit-at schema zs 9 h (omega arith)) in
+    let u10 : pos (nat (getD zs 10 (pos 0))) ≡ getD zs 10 (pos 0) = unsigned-is (getD zs 10 (pos 0)) (fit-at schema zs 10 h (omega arith)) in
+    let u11 : pos (nat (getD zs 11 (pos 0))) ≡ getD zs 11 (pos 0) = unsigned-is (getD zs 11 (pos 0)) (fit-at schema zs 11 h (omega arith)) in
+    let u14 : pos (nat (getD zs 14 (pos 0))) ≡ getD zs 14 (pos 0) = unsigned-is (getD zs 14 (pos 0)) (fit-at schema zs 14 h (omega arith)) in
+    cc
+
+there : (p : List ℕ) → Of (lines schema) p → IsSheet p
+unfolding textOf InRange
+there p o = record { value = figuresOf (o .value); taken = subst (AllFit schema) (sym (back-values (o .value) (o .taken))) (o .taken); is = o .is ∙ ap (linesOf schema) (sym (back-values (o .value) (o .taken))) }
+
+back : (p : List ℕ) → IsSheet p → Of (lines schema) p
+unfolding textOf InRange
+back p o = record { value = valuesOf (o .value); taken = o .taken; is = o .is }
+
+pub sheet-refused : (t : List ℕ) (k : ℕ) → RefusedAt (Of (lines schema)) t k → RefusedAt IsSheet t k
+sheet-refused = refused-alike (Of (lines schema)) IsSheet there back
+
+-- ---- reading
+
+module _ (t : List ℕ) (i : ℕ) (h : i < 15) (zs : List ℤ) (p : ℕ) (a : ReadAs (lines (take i schema)) t 0 p zs) where
+  short : i < length schema
+  short = omega (arith, schema-length)
+
+  pub read-step : (z : ℤ) (q : ℕ) → ReadAs (line (entryAt i .key) (entryAt i .range)) t p q z → ReadAs (lines (take (suc i) schema)) t 0 q (zs ++ (z ∷ []))
+  read-step z q b =
+      subst (λ (es : List Entry). ReadAs (lines es) t 0 q (zs ++ (z ∷ []))) (sym (take-suc schema i blank short))
+      (lines-read (take i schema) (entryAt i) zs z t 0 p q a b)
+
+  pub read-refused : (k : ℕ) → Broken (Of (line (entryAt i .key) (entryAt i .range))) t p k → RefusedAt IsSheet t k
+  read-refused k b =
+      sheet-refused t k
+      (subst (λ (es : List Entry). RefusedAt (Of (lines es)) t k) (sym (split-at schema i blank short))
+      (lines-broken (take i schema) t p zs a (entryAt i) (drop (suc i) schema) k b (drop (suc i) zeros) (fit-drop (suc i) schema zeros zeros-fit)))
+
+module _ (t : List ℕ) (zs : List ℤ) (p : ℕ) (a : ReadAs (lines (take 15 schema)) t 0 p zs) where
+  all-lines : take 15 schema ≡ schema
+  all-lines = take-all 15 schema (omega (arith, schema-length))
+
+  pub read-past : p < length t → RefusedAt IsSheet t p
+  read-past h = sheet-refused t p (subst (λ (es : List Entry). RefusedAt (Of (lines es)) t p) all-lines (lines-past (take 15 schema) t p zs a h))
+
+  pub read-all : length t ≤ p → (f : Figures) → valuesOf f ≡ zs → Accepted t f
+  unfolding textOf InRange
+  read-all h f e = record {
+    inRange = subst (AllFit schema) (sym e) (subst (λ (es : List Entry). AllFit es zs) all-lines (a .taken));
+    is = lines-all (take 15 schema) t p zs a h ∙ ap (λ (es : List Entry). linesOf es zs) all-lines ∙ ap (linesOf schema) (sym e);
+  }
+
+-- ---- writing
+
+module _ (f : Figures) (fit : InRange f) (i : ℕ) (h : i < 15) (old mid : List ℕ) (p : ℕ) (a : Put old 0 (linesOf (take i schema) (take i (valuesOf f))) mid p) where
+  es-is : take (suc i) schema ≡ take i schema ++ (entryAt i ∷ [])
+  es-is = take-suc schema i blank (omega (arith, schema-length))
+
+  zs-is : take (suc i) (valuesOf f) ≡ take i (valuesOf f) ++ (valueAt f i ∷ [])
+  zs-is = take-suc (valuesOf f) i (pos 0) (omega (arith, values-length f))
+
+  pub put-step : (new : List ℕ) (q : ℕ) → Put mid p (lineOf (entryAt i .key) (valueAt f i)) new q → Put old 0 (linesOf (take (suc i) schema) (take (suc i) (valuesOf f))) new q
+  unfolding InRange
+  put-step new q b =
+      rw (es-is, zs-is) (lines-put (take i schema) (entryAt i) (take i (valuesOf f)) (valueAt f i) old mid new p q (fit-take i schema (valuesOf f) fit) a b)
+
+  pub put-room : p + length (lineOf (entryAt i .key) (valueAt f i)) ≤ 465
+  unfolding InRange
+  put-room =
+      let text : linesOf (take (suc i) schema) (take (suc i) (valuesOf f)) ≡ linesOf (take i schema) (take i (valuesOf f)) ++ lineOf (entryAt i .key) (valueAt f i) =
+      rw (es-is, zs-is) (lines-snoc (take i schema) (entryAt i) (take i (valuesOf f)) (valueAt f i) (fit-take i schema (valuesOf f) fit))
+      in
+      omega (
+        arith,
+        a .stops,
+        ap length text,
+        length-append (linesOf (take i schema) (take i (valuesOf f))) (lineOf (entryAt i .key) (valueAt f i)),
+        lines-longest (take (suc i) schema) (take (suc i) (valuesOf f)) (wide-take (suc i) schema schema-wide) (fit-take (suc i) schema (valuesOf f) fit),
+        longest-take (suc i) schema,
+        schema-longest,
+      )
+
+pub put-none : (f : Figures) (old : List ℕ) → Put old 0 (linesOf (take 0 schema) (take 0 (valuesOf f))) old 0
+put-none f old = record { stops = refl; is = refl }
+
+pub put-all : (f : Figures) (old new : List ℕ) (p : ℕ) → Put old 0 (linesOf (take 15 schema) (take 15 (valuesOf f))) new p → Put old 0 (textOf f) new p
+unfolding textOf
+put-all f old new p a =
+    subst (λ (w : List ℕ). Put old 0 w new p)
+    (ap (λ (es : List Entry). linesOf es (take 15 (valuesOf f))) (take-all 15 schema (omega (arith, schema-length)))
+    ∙ ap (linesOf schema) (take-all 15 (valuesOf f) (omega (arith, values-length f)))) a
+
+-- A run over no buffer writes nothing.
+pub nothing : (x w : List ℕ) → x ≡ sets [] 0 w → x ≡ []
+nothing x w e = none x (ap length e ∙ length-sets [] 0 w)
+  where
+    none : (y : List ℕ) → length y ≡ 0 → y ≡ []
+    none [] h = refl
+    none (c ∷ y) h = absurd (omega arith)
+
+pub put-done : (f : Figures) (old mid new : List ℕ) (n m : ℕ) → mid ≡ old → n ≡ 0 + length (textOf f) → n ≤ length mid → Put mid 0 (textOf f) new m → Done f old new m
+put-done f old mid new n m same size room a =
+    let long : length mid ≡ length old = ap length same in
+    let fits : 0 + length (textOf f) ≤ length mid = omega (arith, size) in
+    let text : new ≡ textOf f ++ drop m old =
+    a .is ∙ sets-eq (textOf f) mid 0 fits ∙ ap (λ (k : ℕ). textOf f ++ drop k mid) (sym (a .stops)) ∙ ap (λ (l : List ℕ). textOf f ++ drop m l) same
+    in
+    record {
+      size = omega (arith, a .stops);
+      room = omega (arith, a .stops);
+      is = text;
+      part = sym (length-take-le m new (omega (arith, a .stops, ap length (a .is), length-sets mid 0 (textOf f))));
+    }
+
+pub put-short : (f : Figures) (old mid : List ℕ) (n : ℕ) → mid ≡ old → n ≡ 0 + length (textOf f) → length mid < n → Short f old mid (WriteAnswer.TooShort n)
+put-short f old mid n same size short = record {
+  number = refl;
+  device = refl;
+  place = omega (arith, size);
+  short = omega (arith, ap length same);
+  is = same;
+}
+
+-- ---- an answer whose case is known
+
+pub natural-wrong : (f : Form ℤ) (t : List ℕ) (i k : ℕ) (a : Natural) → tagOf NaturalType.the-type a ≡ 1 → k ≡ wrongAt a → NaturalIn f t i a → Broken (Of f) t i k
+natural-wrong f t i k (Natural.Value v stop) tag e p = absurd (omega (arith, tag))
+natural-wrong f t i k (Natural.Wrong j) tag e p = subst (Broken (Of f) t i) (sym e) p
+
+pub whole-wrong : (f : Form ℤ) (t : List ℕ) (i k : ℕ) (a : Whole) → tagOf WholeType.the-type a ≡ 1 → k ≡ wholeWrongAt a → WholeIn f t i a → Broken (Of f) t i k
+whole-wrong f t i k (Whole.Value z stop) tag e p = absurd (omega (arith, tag))
+whole-wrong f t i k (Whole.Wrong j) tag e p = subst (Broken (Of f) t i) (sym e) p
+
+pub asked : (t : List ℕ) (p : ℕ) → p ≤ length t → Asked t p 0 18446744073709551615 10
+asked t p h = record { within = h; low = omega arith; range = omega arith; stop = omega arith }
+
+pub asked-signed : (t : List ℕ) (p : ℕ) → p ≤ length t → AskedSigned t p 9223372036854775808 9223372036854775807 10
+asked-signed t p h = record { within = h; some = omega arith; negative = omega arith; positive = omega arith; stop = omega arith }
+
+pub signed-back : (z : ℤ) → Fit signed64 z → toZ w64 (ofZ w64 z) ≡ z
+signed-back z h = toZ-ofZ w64 z (fits z h)
+  where
+    fits : (y : ℤ) → Fit signed64 y → SFits w64 y
+    fits (pos n) g = record { sfits = omega (arith, g .1) }
+    fits (negsuc n) g = record { sfits = g }

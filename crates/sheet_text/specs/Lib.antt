@@ -1,0 +1,4 @@
+pub mod Sheet
+pub mod Read
+pub mod Write
+pub mod Worked

@@ -1,0 +1,201 @@
+// The sheet as text: written from its figures and read back. A text is a sheet if it is some figures' rendering (specs/Sheet.antt).
+use figures::Figures;
+use text::Natural;
+use text::Whole;
+ghost use mathlib.Core.Path.{_≡_};
+ghost use Rattle.text.specs.Answer.{Put};
+ghost use Rattle.sheet_text.specs.Sheet.{textOf};
+ghost use Rattle.sheet_text.specs.Read as Read;
+ghost use Rattle.sheet_text.specs.Read.{ReadRight};
+ghost use Rattle.sheet_text.specs.Write as Write;
+ghost use Rattle.sheet_text.specs.Write.{WriteRight};
+
+const MOST: u64 = 18446744073709551615;
+
+const SIGNED_BELOW: u64 = 9223372036854775808;
+
+const SIGNED_MOST: u64 = 9223372036854775807;
+
+// The figures, or the offset of the first byte that no sheet could have there.
+pub enum ReadAnswer {
+    Sheet(Figures),
+    NoSheet(usize),
+}
+
+// The length written, or the length needed.
+pub enum WriteAnswer {
+    Written(usize),
+    TooShort(usize),
+}
+
+// Document 01's number, device and place of an answer.
+impl ReadAnswer {
+    pub fn number(self) -> u64
+        ensures { λ r. ⌜ r ≡ Read.numberOf self ⌝ }
+    {
+        match self {
+            ReadAnswer::Sheet(_) => 0,
+            ReadAnswer::NoSheet(_) => 10,
+        }
+    }
+
+    pub fn device(self) -> u64
+        ensures { λ r. ⌜ r ≡ Read.deviceOf self ⌝ }
+    {
+        0
+    }
+
+    pub fn place(self) -> usize
+        ensures { λ r. ⌜ r ≡ Read.placeOf self ⌝ }
+    {
+        match self {
+            ReadAnswer::Sheet(_) => 0,
+            ReadAnswer::NoSheet(k) => k,
+        }
+    }
+}
+
+impl WriteAnswer {
+    pub fn number(self) -> u64
+        ensures { λ r. ⌜ r ≡ Write.numberOf self ⌝ }
+    {
+        match self {
+            WriteAnswer::Written(_) => 0,
+            WriteAnswer::TooShort(_) => 11,
+        }
+    }
+
+    pub fn device(self) -> u64
+        ensures { λ r. ⌜ r ≡ Write.deviceOf self ⌝ }
+    {
+        0
+    }
+
+    pub fn place(self) -> usize
+        ensures { λ r. ⌜ r ≡ Write.placeOf self ⌝ }
+    {
+        match self {
+            WriteAnswer::Written(_) => 0,
+            WriteAnswer::TooShort(n) => n,
+        }
+    }
+}
+
+// The sheet's lines into the buffer as far as it goes, and their length whatever the buffer's.
+fn put_sheet(f: Figures, buf: &mut [u8]) -> usize
+    ensures { λ r. ⌜ Put (now (buf .entry)) 0 (textOf f) (now (buf .exit)) r ⌝ }
+{
+    let p1 = text::put_line(buf, 0, b"intervals=", f.intervals);
+    let p2 = text::put_line(buf, p1, b"devices=", f.devices);
+    let p3 = text::put_line(buf, p2, b"counted=", f.counted);
+    let p4 = text::put_line(buf, p3, b"replaced=", f.replaced);
+    let p5 = text::put_line(buf, p4, b"excluded=", f.excluded);
+    let p6 = text::put_line(buf, p5, b"methane_l=", f.methane_l);
+    let p7 = text::put_line(buf, p6, b"destroyed_l=", f.destroyed_l);
+    let p8 = text::put_line(buf, p7, b"uncombusted_l=", f.uncombusted_l);
+    let p9 = text::put_line(buf, p8, b"baseline_mg=", f.baseline_mg);
+    let p10 = text::put_line(buf, p9, b"co2_mg=", f.co2_mg);
+    let p11 = text::put_line(buf, p10, b"uncombusted_mg=", f.uncombusted_mg);
+    let p12 = text::put_line(buf, p11, b"fuel_mg=", f.fuel_mg);
+    let p13 = text::put_signed_line(buf, p12, b"reduction_mg=", f.reduction_mg);
+    let p14 = text::put_signed_line(buf, p13, b"tonnes=", f.tonnes);
+    text::put_line(buf, p14, b"credits=", f.credits)
+}
+
+// Writes the sheet. Rules out: a byte after the sheet's end changed; TooShort with a part of the sheet written.
+pub fn write(f: Figures, buf: &mut [u8]) -> WriteAnswer
+    ensures { λ r. ⌜ WriteRight f (now (buf .entry)) (now (buf .exit)) r ⌝ }
+{
+    let n = put_sheet(f, &mut buf[..0]);
+    if buf.len() < n {
+        return WriteAnswer::TooShort(n);
+    }
+    let m = put_sheet(f, buf);
+    WriteAnswer::Written(m)
+}
+
+// Reads a sheet. Rules out: `01` refused at the line's end rather than at the 1; a text with a byte behind the last line accepted.
+pub fn read(t: &[u8]) -> ReadAnswer
+    ensures { λ r. ⌜ ReadRight (now (t .entry)) r ⌝ }
+{
+    let a1 = text::read_line(t, 0, b"intervals=", 0, MOST);
+    let Natural::Value(intervals, p1) = a1 else {
+        return ReadAnswer::NoSheet(a1.wrong_at());
+    };
+    let a2 = text::read_line(t, p1, b"devices=", 0, MOST);
+    let Natural::Value(devices, p2) = a2 else {
+        return ReadAnswer::NoSheet(a2.wrong_at());
+    };
+    let a3 = text::read_line(t, p2, b"counted=", 0, MOST);
+    let Natural::Value(counted, p3) = a3 else {
+        return ReadAnswer::NoSheet(a3.wrong_at());
+    };
+    let a4 = text::read_line(t, p3, b"replaced=", 0, MOST);
+    let Natural::Value(replaced, p4) = a4 else {
+        return ReadAnswer::NoSheet(a4.wrong_at());
+    };
+    let a5 = text::read_line(t, p4, b"excluded=", 0, MOST);
+    let Natural::Value(excluded, p5) = a5 else {
+        return ReadAnswer::NoSheet(a5.wrong_at());
+    };
+    let a6 = text::read_line(t, p5, b"methane_l=", 0, MOST);
+    let Natural::Value(methane_l, p6) = a6 else {
+        return ReadAnswer::NoSheet(a6.wrong_at());
+    };
+    let a7 = text::read_line(t, p6, b"destroyed_l=", 0, MOST);
+    let Natural::Value(destroyed_l, p7) = a7 else {
+        return ReadAnswer::NoSheet(a7.wrong_at());
+    };
+    let a8 = text::read_line(t, p7, b"uncombusted_l=", 0, MOST);
+    let Natural::Value(uncombusted_l, p8) = a8 else {
+        return ReadAnswer::NoSheet(a8.wrong_at());
+    };
+    let a9 = text::read_line(t, p8, b"baseline_mg=", 0, MOST);
+    let Natural::Value(baseline_mg, p9) = a9 else {
+        return ReadAnswer::NoSheet(a9.wrong_at());
+    };
+    let a10 = text::read_line(t, p9, b"co2_mg=", 0, MOST);
+    let Natural::Value(co2_mg, p10) = a10 else {
+        return ReadAnswer::NoSheet(a10.wrong_at());
+    };
+    let a11 = text::read_line(t, p10, b"uncombusted_mg=", 0, MOST);
+    let Natural::Value(uncombusted_mg, p11) = a11 else {
+        return ReadAnswer::NoSheet(a11.wrong_at());
+    };
+    let a12 = text::read_line(t, p11, b"fuel_mg=", 0, MOST);
+    let Natural::Value(fuel_mg, p12) = a12 else {
+        return ReadAnswer::NoSheet(a12.wrong_at());
+    };
+    let a13 = text::read_signed_line(t, p12, b"reduction_mg=", SIGNED_BELOW, SIGNED_MOST);
+    let Whole::Value(reduction_mg, p13) = a13 else {
+        return ReadAnswer::NoSheet(a13.wrong_at());
+    };
+    let a14 = text::read_signed_line(t, p13, b"tonnes=", SIGNED_BELOW, SIGNED_MOST);
+    let Whole::Value(tonnes, p14) = a14 else {
+        return ReadAnswer::NoSheet(a14.wrong_at());
+    };
+    let a15 = text::read_line(t, p14, b"credits=", 0, MOST);
+    let Natural::Value(credits, p15) = a15 else {
+        return ReadAnswer::NoSheet(a15.wrong_at());
+    };
+    if p15 < t.len() {
+        return ReadAnswer::NoSheet(p15);
+    }
+    ReadAnswer::Sheet(Figures {
+        intervals,
+        devices,
+        counted,
+        replaced,
+        excluded,
+        methane_l,
+        destroyed_l,
+        uncombusted_l,
+        baseline_mg,
+        co2_mg,
+        uncombusted_mg,
+        fuel_mg,
+        reduction_mg,
+        tonnes,
+        credits,
+    })
+}

@@ -1,0 +1,38 @@
+-- A line's answer from its key's and its number's: by cases on the answer. Assumes nothing.
+use Prim.Native.Nat.{ℕ, _+_, _≤_}
+use mathlib.Core.List.{List}
+use lib.ListN.{length}
+use mathlib.Core.Path.{_≡_, subst}
+use lib.IntN.{ℤ, pos}
+use Rattle.text.specs.declared.Natural.{Natural}
+use Rattle.text.specs.declared.Natural.the-variants as Natural
+use Rattle.text.specs.declared.Whole.{Whole}
+use Rattle.text.specs.declared.Whole.the-variants as Whole
+use Rattle.text.specs.Form.{Form, Of, ReadAs, Broken}
+use Rattle.text.specs.Decimal.{Range, number}
+use Rattle.text.specs.Line.{line}
+use Rattle.text.specs.Answer.{NaturalIn, WholeIn, Matched}
+use Rattle.text.proofs.Numbers.{line-read, line-broken}
+
+-- What an answer says once its case is known.
+module _ (f : Form ℤ) (t : List ℕ) (i : ℕ) where
+  pub natural-read : (a : Natural) (v stop : ℕ) → a ≡ Natural.Value v stop → NaturalIn f t i a → ReadAs f t i stop (pos v)
+  natural-read a v stop e p = subst (NaturalIn f t i) e p
+
+  pub natural-broken : (a : Natural) (k : ℕ) → a ≡ Natural.Wrong k → NaturalIn f t i a → Broken (Of f) t i k
+  natural-broken a k e p = subst (NaturalIn f t i) e p
+
+  pub whole-read : (a : Whole) (z : ℤ) (stop : ℕ) → a ≡ Whole.Value z stop → WholeIn f t i a → ReadAs f t i stop z
+  whole-read a z stop e p = subst (WholeIn f t i) e p
+
+  pub whole-broken : (a : Whole) (k : ℕ) → a ≡ Whole.Wrong k → WholeIn f t i a → Broken (Of f) t i k
+  whole-broken a k e p = subst (WholeIn f t i) e p
+
+module _ (t : List ℕ) (i n : ℕ) (key : List ℕ) (r : Range) (m : Matched t i key n) (h : length key ≤ n) where
+  pub line-natural : (a : Natural) → NaturalIn (number r 10) t (i + n) a → NaturalIn (line key r) t i a
+  line-natural (Natural.Value v stop) p = line-read t i n key r m stop (pos v) h p
+  line-natural (Natural.Wrong k) p = line-broken t i n key r m k h p
+
+  pub line-whole : (a : Whole) → WholeIn (number r 10) t (i + n) a → WholeIn (line key r) t i a
+  line-whole (Whole.Value z stop) p = line-read t i n key r m stop z h p
+  line-whole (Whole.Wrong k) p = line-broken t i n key r m k h p

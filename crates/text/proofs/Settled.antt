@@ -1,0 +1,65 @@
+-- The answers of the readers are settled by their contracts, and reading is the inverse of printing. Assumes nothing.
+use Prim.Native.Nat.{ℕ, _+_, _≤_, _<_}
+use mathlib.Core.Path.{_≡_, sym, ap, _∙_}
+use mathlib.Core.List.{List, [], _∷_, _++_, append-assoc}
+use native.Mathlib.Omega.{arith}
+use lib.ListN.{length, take, length-append}
+use lib.Seq.{take-append-add, take-append-seam}
+use lib.IntN.{ℤ, pos, negsuc}
+use Rattle.text.specs.declared.Natural.{Natural}
+use Rattle.text.specs.declared.Natural.the-variants as Natural
+use Rattle.text.specs.declared.Whole.{Whole}
+use Rattle.text.specs.declared.Whole.the-variants as Whole
+use Rattle.text.specs.Form.{Form, Stands, ReadAs}
+use Rattle.text.specs.Decimal.{decimal, Range, Fit, number}
+use Rattle.text.specs.Answer.{NaturalIn, WholeIn}
+use Rattle.text.proofs.Forms.{Free, read-once, broken-not-read, broken-once}
+use Rattle.text.proofs.Numbers.{number-free}
+
+-- A text in the middle of another stands there.
+pub stands-in : (before w after : List ℕ) → Stands (before ++ (w ++ after)) (length before) (length before + length w) w
+stands-in before w after = record {
+  within = omega (arith, length-append before (w ++ after), length-append w after);
+  is = take-append-add before (w ++ after) (length w) ∙ ap (λ (l : List ℕ). before ++ l) (take-append-seam w after)
+      ∙ ap (λ (l : List ℕ). l ++ w) (sym (take-append-seam before (w ++ after)));
+}
+
+module _ (f : Form ℤ) (free : Free f) (t : List ℕ) (i : ℕ) (h : i ≤ length t) where
+  pub natural-settled : (a b : Natural) → NaturalIn f t i a → NaturalIn f t i b → a ≡ b
+  natural-settled (Natural.Value v p) (Natural.Value w q) r s =
+      let e : (pos v ≡ pos w) × (p ≡ q) = read-once f free t i p q (pos v) (pos w) h r s in
+      cc (e .0, e .1)
+  natural-settled (Natural.Value v p) (Natural.Wrong k) r s = absurd (broken-not-read f free t i k p (pos v) s r)
+  natural-settled (Natural.Wrong k) (Natural.Value v p) r s = absurd (broken-not-read f free t i k p (pos v) r s)
+  natural-settled (Natural.Wrong j) (Natural.Wrong k) r s = ap Natural.Wrong (broken-once _ t i j k r s)
+
+  pub whole-settled : (a b : Whole) → WholeIn f t i a → WholeIn f t i b → a ≡ b
+  whole-settled (Whole.Value y p) (Whole.Value z q) r s =
+      let e : (y ≡ z) × (p ≡ q) = read-once f free t i p q y z h r s in
+      cc (e .0, e .1)
+  whole-settled (Whole.Value z p) (Whole.Wrong k) r s = absurd (broken-not-read f free t i k p z s r)
+  whole-settled (Whole.Wrong k) (Whole.Value z p) r s = absurd (broken-not-read f free t i k p z r s)
+  whole-settled (Whole.Wrong j) (Whole.Wrong k) r s = ap Whole.Wrong (broken-once _ t i j k r s)
+
+-- What is printed is read back as the number, wherever it stands.
+module _ (r : Range) (e : ℕ) (he : e < 48) (before after : List ℕ) where
+  text-of : ℤ → List ℕ
+  text-of z = before ++ ((decimal z ++ (e ∷ [])) ++ after)
+
+  inside : (z : ℤ) → length before ≤ length (text-of z)
+  unfolding text-of
+  inside z = omega (arith, length-append before ((decimal z ++ (e ∷ [])) ++ after))
+
+  pub natural-back : (v : ℕ) → Fit r (pos v) → (a : Natural) → NaturalIn (number r e) (before ++ ((decimal (pos v) ++ (e ∷ [])) ++ after)) (length before) a
+      → a ≡ Natural.Value v (length before + length (decimal (pos v) ++ (e ∷ [])))
+  unfolding text-of
+  natural-back v fit a p =
+      natural-settled (number r e) (number-free r e he) _ (length before) (inside (pos v)) a _ p
+      (record { taken = fit; stands = stands-in before (decimal (pos v) ++ (e ∷ [])) after })
+
+  pub whole-back : (z : ℤ) → Fit r z → (a : Whole) → WholeIn (number r e) (before ++ ((decimal z ++ (e ∷ [])) ++ after)) (length before) a
+      → a ≡ Whole.Value z (length before + length (decimal z ++ (e ∷ [])))
+  unfolding text-of
+  whole-back z fit a p =
+      whole-settled (number r e) (number-free r e he) _ (length before) (inside z) a _ p
+      (record { taken = fit; stands = stands-in before (decimal z ++ (e ∷ [])) after })

@@ -1,0 +1,22 @@
+-- `text::end_line` meets its contract. Assumes nothing.
+use native.Mathlib.Omega.{arith}
+use borrow.Author.Needs.{needs}
+use denote.Ref.{now}
+use Rattle.text.proofs.Writing.{put-one}
+use Rattle.text.proofs.end_line.Statement.{statement}
+use Rattle.text.proofs.end_line.Tie as tie
+
+add-stop : tie.Need-add-stop
+add-stop c = omega arith
+
+put-requires : tie.Need-put-requires
+put-requires c κs = tt
+
+same-length : tie.Need-same-length
+same-length c = search needs
+
+returns : tie.Need-returns
+returns c = put-one (now (c .before .before .before .before .before .args .buf)) (c .before .before .put .last .0) (c .before .before .before .before .before .args .at) 10 (c .before .before .put .ensures)
+
+pub end-line-spec : {M : Type 1} → statement M
+end-line-spec = tie.close (tie.spec add-stop put-requires same-length returns)

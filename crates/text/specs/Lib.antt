@@ -1,0 +1,5 @@
+pub mod Bytes
+pub mod Form
+pub mod Decimal
+pub mod Line
+pub mod Answer

@@ -1,0 +1,272 @@
+// Decimals and key=value lines, printed into a lent buffer and read from a text.
+// The records' and the sheet's texts are made of these parts; what a form is and what a refusal means is in specs/Form.antt.
+ghost use Prim.Native.Nat.{_+_, _^_, _≤_, _<_};
+ghost use mathlib.Core.Path.{_≡_};
+ghost use mathlib.Core.List.{[], _∷_};
+ghost use lib.ListN.{length, set};
+ghost use mathlib.Core.Bool.{false};
+ghost use lib.IntN.{pos, negsuc};
+ghost use lib.Signed.{nonNeg};
+ghost use Rattle.text.specs.Decimal.{dec, decimal, number, plain, signed};
+ghost use Rattle.text.specs.Line.{lineOf, line};
+ghost use Rattle.text.specs.Answer.{Put, NaturalIn, WholeIn, wrongAt, wholeWrongAt, Matched, DigitOf, Asked, AskedSigned};
+
+// An unsigned number and the place after it, or the place of the first byte that cannot stand there.
+pub enum Natural {
+    Value(u64, usize),
+    Wrong(usize),
+}
+
+// The same for a signed number.
+pub enum Whole {
+    Value(i64, usize),
+    Wrong(usize),
+}
+
+impl Natural {
+    // The place of an answer that is wrong. Rules out: 0 for every answer; the place after a value.
+    pub fn wrong_at(self) -> usize
+        ensures { λ r. ⌜ r ≡ wrongAt self ⌝ }
+    {
+        match self {
+            Natural::Value(_, _) => 0,
+            Natural::Wrong(k) => k,
+        }
+    }
+}
+
+impl Whole {
+    // The same of a signed one. Rules out: 0 for every answer; the place after a value.
+    pub fn wrong_at(self) -> usize
+        ensures { λ r. ⌜ r ≡ wholeWrongAt self ⌝ }
+    {
+        match self {
+            Whole::Value(_, _) => 0,
+            Whole::Wrong(k) => k,
+        }
+    }
+}
+
+// Stores a byte, or nothing past the end: so one function both measures (on an empty buffer) and writes.
+fn put(buf: &mut [u8], at: usize, b: u8)
+    ensures { λ _. ⌜ now (buf .exit) ≡ set (now (buf .entry)) at b ⌝ }
+{
+    if at < buf.len() {
+        buf[at] = b;
+    }
+}
+
+// Writes the bytes of w from `at`, and gives the place after them.
+// Rules out: a byte after w's end changed; the buffer's end given as the place.
+pub fn put_bytes(buf: &mut [u8], at: usize, w: &[u8]) -> usize
+    requires { ⌜ at + length (now w) < 2 ^ 64 ⌝ }
+    ensures { λ r. ⌜ Put (now (buf .entry)) at (now (w .entry)) (now (buf .exit)) r ⌝ }
+{
+    let mut i = 0;
+    while i < w.len() {
+        put(buf, at + i, w[i]);
+        i += 1;
+    }
+    at + i
+}
+
+// Writes the digits of v from `at`, and gives the place after them.
+// Rules out: the digits backwards; nothing written for 0.
+pub fn put_natural(buf: &mut [u8], at: usize, v: u64) -> usize
+    requires { ⌜ at + length (dec v) < 2 ^ 64 ⌝ }
+    ensures { λ r. ⌜ Put (now (buf .entry)) at (dec v) (now (buf .exit)) r ⌝ }
+{
+    if v < 10 {
+        put(buf, at, 48 + (v as u8));
+        at + 1
+    } else {
+        let p = put_natural(buf, at, v / 10);
+        put(buf, p, 48 + ((v % 10) as u8));
+        p + 1
+    }
+}
+
+// How far a negative number lies below -1: the least one has no negative of its own width.
+fn short_of_minus_one(z: i64) -> u64
+    requires { ⌜ nonNeg z ≡ false ⌝ }
+    ensures { λ r. ⌜ z ≡ negsuc r ⌝ }
+{
+    (-1 - z) as u64
+}
+
+// -1 - m.
+fn minus_one_less(m: u64) -> i64
+    requires { ⌜ m < 2 ^ 63 ⌝ }
+    ensures { λ r. ⌜ r ≡ negsuc m ⌝ }
+{
+    -1 - (m as i64)
+}
+
+// Writes z, with a minus where it is negative.
+// Rules out: -0 for 0; a wrong digit for the least number, which has no negative.
+pub fn put_whole(buf: &mut [u8], at: usize, z: i64) -> usize
+    requires { ⌜ at + length (decimal z) < 2 ^ 64 ⌝ }
+    ensures { λ r. ⌜ Put (now (buf .entry)) at (decimal z) (now (buf .exit)) r ⌝ }
+{
+    if z < 0 {
+        put(buf, at, 45);
+        put_natural(buf, at + 1, short_of_minus_one(z) + 1)
+    } else {
+        put_natural(buf, at, z as u64)
+    }
+}
+
+// Writes byte 10.
+fn end_line(buf: &mut [u8], at: usize) -> usize
+    requires { ⌜ at + 1 < 2 ^ 64 ⌝ }
+    ensures { λ r. ⌜ Put (now (buf .entry)) at (10 ∷ []) (now (buf .exit)) r ⌝ }
+{
+    let stop = at + 1;
+    put(buf, at, 10);
+    stop
+}
+
+// Writes a line: the key, which ends with `=`, the number and byte 10.
+// Rules out: a line without its byte 10; byte 10 one place further on.
+pub fn put_line(buf: &mut [u8], at: usize, key: &[u8], v: u64) -> usize
+    requires { ⌜ at + length (lineOf (now key) (pos v)) < 2 ^ 64 ⌝ }
+    ensures { λ r. ⌜ Put (now (buf .entry)) at (lineOf (now (key .entry)) (pos v)) (now (buf .exit)) r ⌝ }
+{
+    let p = put_bytes(buf, at, key);
+    let q = put_natural(buf, p, v);
+    end_line(buf, q)
+}
+
+// Writes a line with a signed number.
+// Rules out: the minus before the key; a place after the line that counts no minus.
+pub fn put_signed_line(buf: &mut [u8], at: usize, key: &[u8], z: i64) -> usize
+    requires { ⌜ at + length (lineOf (now key) z) < 2 ^ 64 ⌝ }
+    ensures { λ r. ⌜ Put (now (buf .entry)) at (lineOf (now (key .entry)) z) (now (buf .exit)) r ⌝ }
+{
+    let p = put_bytes(buf, at, key);
+    let q = put_whole(buf, p, z);
+    end_line(buf, q)
+}
+
+// How many bytes of the key stand in t from `start`.
+// Rules out: 0 for a key that is wrong in its last byte only; the whole key where the text stops inside it.
+pub fn matched(t: &[u8], start: usize, key: &[u8]) -> usize
+    requires { ⌜ start ≤ length (now t) ⌝ }
+    ensures { λ r. ⌜ Matched (now (t .entry)) start (now (key .entry)) r ⌝ }
+{
+    let mut i = 0;
+    while i < key.len() {
+        if start + i >= t.len() {
+            return i;
+        }
+        if t[start + i] != key[i] {
+            return i;
+        }
+        i += 1;
+    }
+    i
+}
+
+// The value of a digit, and 10 for any other byte.
+fn digit(b: u8) -> u64
+    ensures { λ r. ⌜ DigitOf b r ⌝ }
+{
+    if b < 48 {
+        return 10;
+    }
+    if b > 57 {
+        return 10;
+    }
+    (b - 48) as u64
+}
+
+// Reads an unsigned number from `least`, 0 or 1, to `most`, ended by the byte `end`, which is below the digits.
+// One reader for every width: the bounds say which. Rules out: 18446744073709551616 noticed after its last digit; 01 read as 1.
+pub fn read_natural(t: &[u8], start: usize, least: u64, most: u64, end: u8) -> Natural
+    requires { ⌜ Asked (now t) start least most end ⌝ }
+    ensures { λ r. ⌜ NaturalIn (number (plain least most) end) (now (t .entry)) start r ⌝ }
+{
+    if start >= t.len() {
+        return Natural::Wrong(start);
+    }
+    let first = digit(t[start]);
+    if first > 9 {
+        return Natural::Wrong(start);
+    }
+    if first < least {
+        return Natural::Wrong(start);
+    }
+    if first > most {
+        return Natural::Wrong(start);
+    }
+    let mut v = first;
+    let mut i = start + 1;
+    while i < t.len() {
+        if t[i] == end {
+            return Natural::Value(v, i + 1);
+        }
+        let d = digit(t[i]);
+        if d > 9 {
+            return Natural::Wrong(i);
+        }
+        if v == 0 {
+            return Natural::Wrong(i);
+        }
+        if d > most {
+            return Natural::Wrong(i);
+        }
+        if v > (most - d) / 10 {
+            return Natural::Wrong(i);
+        }
+        v = 10 * v + d;
+        i += 1;
+    }
+    Natural::Wrong(i)
+}
+
+// Reads a signed number from -`below` to `most`, ended by the byte `end`.
+// Rules out: -0 read as 0; -9223372036854775809 read at all.
+pub fn read_whole(t: &[u8], start: usize, below: u64, most: u64, end: u8) -> Whole
+    requires { ⌜ AskedSigned (now t) start below most end ⌝ }
+    ensures { λ r. ⌜ WholeIn (number (signed below most) end) (now (t .entry)) start r ⌝ }
+{
+    if start >= t.len() {
+        return Whole::Wrong(start);
+    }
+    if t[start] == 45 {
+        return match read_natural(t, start + 1, 1, below, end) {
+            Natural::Value(v, p) => Whole::Value(minus_one_less(v - 1), p),
+            Natural::Wrong(k) => Whole::Wrong(k),
+        };
+    }
+    match read_natural(t, start, 0, most, end) {
+        Natural::Value(v, p) => Whole::Value(v as i64, p),
+        Natural::Wrong(k) => Whole::Wrong(k),
+    }
+}
+
+// Reads a line with an unsigned number. The key ends with `=`.
+// Rules out: a wrong key refused at the line's first byte; a value without byte 10 read.
+pub fn read_line(t: &[u8], start: usize, key: &[u8], least: u64, most: u64) -> Natural
+    requires { ⌜ Asked (now t) start least most 10 ⌝ }
+    ensures { λ r. ⌜ NaturalIn (line (now (key .entry)) (plain least most)) (now (t .entry)) start r ⌝ }
+{
+    let n = matched(t, start, key);
+    if n < key.len() {
+        return Natural::Wrong(start + n);
+    }
+    read_natural(t, start + n, least, most, 10)
+}
+
+// Reads a line with a signed number.
+// Rules out: `tonnes=-` refused at the minus rather than behind it; a value above the range read.
+pub fn read_signed_line(t: &[u8], start: usize, key: &[u8], below: u64, most: u64) -> Whole
+    requires { ⌜ AskedSigned (now t) start below most 10 ⌝ }
+    ensures { λ r. ⌜ WholeIn (line (now (key .entry)) (signed below most)) (now (t .entry)) start r ⌝ }
+{
+    let n = matched(t, start, key);
+    if n < key.len() {
+        return Whole::Wrong(start + n);
+    }
+    read_whole(t, start + n, below, most, 10)
+}
