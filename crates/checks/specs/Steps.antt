@@ -83,12 +83,13 @@ lengthsOf c =
     ∷ length (c .flow) ∷ length (c .content) ∷ length (c .temp) ∷ length (c .press) ∷ length (c .status)
     ∷ c .outcome-length ∷ c .flow-row-length ∷ c .content-row-length ∷ length (c .factor) ∷ []
 
--- and what they are to be
+-- and what D, N and the number of quantities ask them to be
+abbrev pub wantedFor : ℕ → ℕ → ℕ → List ℕ
+wantedFor d n fuels =
+    d ∷ 2 * d ∷ 64 * d ∷ 64 * d ∷ d * n ∷ d * n ∷ d * n ∷ d * n ∷ d * n ∷ d * n ∷ d * n ∷ d * n ∷ fuels ∷ []
+
 unfoldable pub wantedOf : Call → List ℕ
-wantedOf c =
-    let d : ℕ = c .devices in
-    let rows : ℕ = c .devices * c .intervals in
-    d ∷ 2 * d ∷ 64 * d ∷ 64 * d ∷ rows ∷ rows ∷ rows ∷ rows ∷ rows ∷ rows ∷ rows ∷ rows ∷ length (c .quantity) ∷ []
+wantedOf c = wantedFor (c .devices) (c .intervals) (length (c .quantity))
 
 unfoldable pub lengthsStep : Call → Step
 lengthsStep c =
