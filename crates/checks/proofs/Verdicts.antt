@@ -39,6 +39,10 @@ module _ (s : Step) (ss : List Step) (r : ℕ) where
   pub goes : (n : ℕ) → s .size ≡ n → FirstOf n (s .bad) r → n ≤ r → verdictOf (s ∷ ss) ≡ verdictOf ss
   goes n e x h = step-goes (subst (λ (m : ℕ). FirstOf m (s .bad) r) (sym e) x) (subst (λ (m : ℕ). m ≤ r) (sym e) h)
 
+pub end-clean : verdictOf [] ≡ Clean
+unfolding verdictOf
+end-clean = refl
+
 -- a step that looks at one thing
 module _ (s : Step) (ss : List Step) where
   pub one-stops : s .size ≡ 1 → s .bad 0 ≡ true → verdictOf (s ∷ ss) ≡ Refused (s .refusal 0)
