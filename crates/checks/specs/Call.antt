@@ -6,7 +6,7 @@ use lib.IntN.{ℤ}
 
 -- "N quarter-hour intervals", "D devices", the mine; each device's kind, check counts (flow, then CH4), and 64 places for the
 -- positions and drifts of its checks, flow's 32 first; the five series of D rows of N entries, "device 0 first"; the fuel
--- lines; and the three lent result rows as they are at entry
+-- lines; and how long the three lent result rows are, for no refusal looks at their entries
 pub record Call : Type 0 where
   pub intervals : ℕ
   pub devices : ℕ
@@ -22,6 +22,6 @@ pub record Call : Type 0 where
   pub status : List ℕ
   pub quantity : List ℕ
   pub factor : List ℕ
-  pub outcome-row : List ℕ
-  pub flow-row : List ℕ
-  pub content-row : List ℕ
+  pub outcome-length : ℕ
+  pub flow-row-length : ℕ
+  pub content-row-length : ℕ

@@ -1,2 +1,4 @@
 pub mod Call
 pub mod Steps
+pub mod Accepted
+pub mod Examples

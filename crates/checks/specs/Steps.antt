@@ -81,14 +81,15 @@ unfoldable pub lengthsOf : Call → List ℕ
 lengthsOf c =
     length (c .kinds) ∷ length (c .counts) ∷ length (c .places) ∷ length (c .drifts)
     ∷ length (c .flow) ∷ length (c .content) ∷ length (c .temp) ∷ length (c .press) ∷ length (c .status)
-    ∷ length (c .outcome-row) ∷ length (c .flow-row) ∷ length (c .content-row) ∷ length (c .factor) ∷ []
+    ∷ c .outcome-length ∷ c .flow-row-length ∷ c .content-row-length ∷ length (c .factor) ∷ []
 
--- and what they are to be
+-- and what D, N and the number of quantities ask them to be
+abbrev pub wantedFor : ℕ → ℕ → ℕ → List ℕ
+wantedFor d n fuels =
+    d ∷ 2 * d ∷ 64 * d ∷ 64 * d ∷ d * n ∷ d * n ∷ d * n ∷ d * n ∷ d * n ∷ d * n ∷ d * n ∷ d * n ∷ fuels ∷ []
+
 unfoldable pub wantedOf : Call → List ℕ
-wantedOf c =
-    let d : ℕ = c .devices in
-    let rows : ℕ = c .devices * c .intervals in
-    d ∷ 2 * d ∷ 64 * d ∷ 64 * d ∷ rows ∷ rows ∷ rows ∷ rows ∷ rows ∷ rows ∷ rows ∷ rows ∷ length (c .quantity) ∷ []
+wantedOf c = wantedFor (c .devices) (c .intervals) (length (c .quantity))
 
 unfoldable pub lengthsStep : Call → Step
 lengthsStep c =
@@ -121,10 +122,14 @@ unfoldable pub wrongThing : ℕ → List ℕ → List ℕ → List ℤ → ℕ �
 wrongThing intervals counts places drifts g zero = ltb 32 (getD counts g 0)
 wrongThing intervals counts places drifts g (suc j) = both (ltb j (getD counts g 0)) (wrongCheck intervals places drifts g j)
 
+-- the place of a thing where thing 0 is a count, whose place is `last`, and thing j + 1 is entry j
+abbrev pub thingPlace : ℕ → ℕ → ℕ
+thingPlace last zero = last
+thingPlace last (suc j) = j
+
 -- "The place is .. the check .. entry .. (32 .. for a count)"
 abbrev pub checkPlace : ℕ → ℕ
-checkPlace zero = 32
-checkPlace (suc j) = j
+checkPlace t = thingPlace 32 t
 
 unfoldable pub checksStep : Call → Step
 checksStep c =
@@ -159,19 +164,19 @@ wrongFuel quantity factor (suc j) = either (ltb 1000000000 (getD quantity j 0)) 
 
 -- "The place is .. the .. fuel entry .. (.. 64 for a count)"
 abbrev pub fuelPlace : ℕ → ℕ
-fuelPlace zero = 64
-fuelPlace (suc j) = j
+fuelPlace t = thingPlace 64 t
 
 unfoldable pub fuelsStep : Call → Step
 fuelsStep c =
     record { size = 1 + length (c .quantity); bad = wrongFuel (c .quantity) (c .factor); refusal = λ k. Fuel (fuelPlace k) }
 
--- the order of test
-abbrev pub stepsOf : Call → List Step
-stepsOf c =
-    intervalsStep c ∷ devicesStep c ∷ lengthsStep c ∷ mineStep c ∷ kindsStep c ∷ misplacedStep c ∷ checksStep c ∷ readingsStep c
-    ∷ fuelsStep c ∷ []
+-- the order of test: what the call's shape is, then its values
+abbrev pub valueSteps : Call → List Step
+valueSteps c = kindsStep c ∷ misplacedStep c ∷ checksStep c ∷ readingsStep c ∷ fuelsStep c ∷ []
 
--- what quantification answers before it looks at any value: nothing is wrong, or the first refusal
-unfoldable pub judge : Call → Verdict
-judge c = verdictOf (stepsOf c)
+abbrev pub stepsOf : Call → List Step
+stepsOf c = intervalsStep c ∷ devicesStep c ∷ lengthsStep c ∷ mineStep c ∷ valueSteps c
+
+-- what quantification answers before it works anything out: nothing is wrong, or the first refusal
+unfoldable pub judged : Call → Verdict
+judged c = verdictOf (stepsOf c)

@@ -1,0 +1,319 @@
+-- What is known of a call: its shape where steps 1 to 3 are clear, and all of `Accepted` where every step is.
+-- Assumes nothing.
+use Prim.Native.Nat.{ℕ, zero, suc, _+_, _-_, _*_, _/_, _%_, _≤_, _<_}
+use mathlib.Core.Path.{_≡_, refl, sym, ap, ap₂, _∙_, subst}
+use mathlib.Core.Bool.{Bool, true, false, not}
+use mathlib.Core.Logic.{_⊎_, ⊎-elim}
+use mathlib.Core.List.{List, [], _∷_}
+use native.Mathlib.Nat.{not-suc-le-zero, le-of-suc-le-suc, eq-or-lt-of-le, mul-add-div, div-eq-of-lt, mul-add-mod-self-left, mod-eq-of-lt, mul-le-mul}
+use native.Mathlib.Omega.{arith}
+use lib.Dec.{eqb, ltb, leb}
+use lib.IntN.{ℤ, pos}
+use lib.ListN.{length, getD}
+use borrow.Author.Tests.{leb-true, leb-false, ltb-false, lt-ltb, eqb-true, not-true, not-false}
+use Rattle.rows.specs.Rows.{both, either, FirstOf}
+use Rattle.rows.proofs.Laws.{both-true}
+use Rattle.protocol.specs.Kinds.{isMine}
+use Rattle.protocol.specs.Ranges.{flowRight, contentRight, tempRight, pressRight, statusRight, driftRight}
+use Rattle.checks.specs.Call.{Call}
+use Rattle.checks.specs.Steps.{intervalsStep, devicesStep, lengthsOf, wantedOf, lengthsStep, mineStep, kindsStep, misplacedStep, wrongCheck, wrongThing, checksStep, wrongReading, readingsStep, wrongFuel, fuelsStep, Step, verdictOf, valueSteps, stepsOf, judged}
+use Rattle.checks.specs.Accepted.{Clear, AllClear, Refuses, Shaped, Accepted}
+use Rattle.checks.specs.declared.Refusal.{Refusal}
+use Rattle.checks.specs.declared.Verdict.the-variants.{Clean, Refused}
+use Rattle.checks.proofs.Verdicts.{clean-clear, clear-clean, refused-first, first-refused, refuses-unique}
+
+-- ---- bounds
+
+-- 16 devices of 35,136 intervals
+pub cells-fit : (d n : ℕ) → d ≤ 16 → n ≤ 35136 → d * n ≤ 562176
+cells-fit d n h l = let z : d * n ≤ 16 * 35136 = mul-le-mul h l in omega arith
+
+module _ (x most : ℕ) (e : both (leb 1 x) (leb x most) ≡ true) where
+  pub within-least : 1 ≤ x
+  within-least = leb-true 1 x (both-true (leb 1 x) (leb x most) e .0)
+
+  pub within-most : x ≤ most
+  within-most = leb-true x most (both-true (leb 1 x) (leb x most) e .1)
+
+-- ---- the shape
+
+-- the call without its lent result rows
+abbrev pub bare : Call → Call
+bare c =
+    record {
+      intervals = c .intervals;
+      devices = c .devices;
+      mine = c .mine;
+      kinds = c .kinds;
+      counts = c .counts;
+      places = c .places;
+      drifts = c .drifts;
+      flow = c .flow;
+      content = c .content;
+      temp = c .temp;
+      press = c .press;
+      status = c .status;
+      quantity = c .quantity;
+      factor = c .factor;
+      outcome-length = 0;
+      flow-row-length = 0;
+      content-row-length = 0;
+    }
+
+-- the values' steps do not look at the lent result rows
+pub bare-values : (c : Call) → verdictOf (valueSteps (bare c)) ≡ verdictOf (valueSteps c)
+unfolding kindsStep misplacedStep checksStep readingsStep fuelsStep
+bare-values c = refl
+
+pub bare-shaped : (c : Call) → Shaped c → Shaped (bare c)
+bare-shaped c s =
+    record {
+      intervals-least = s .intervals-least;
+      intervals-most = s .intervals-most;
+      devices-least = s .devices-least;
+      devices-most = s .devices-most;
+      kinds-long = s .kinds-long;
+      counts-long = s .counts-long;
+      places-long = s .places-long;
+      drifts-long = s .drifts-long;
+      flow-long = s .flow-long;
+      content-long = s .content-long;
+      temp-long = s .temp-long;
+      press-long = s .press-long;
+      status-long = s .status-long;
+      factor-long = s .factor-long;
+    }
+
+module _ (c : Call) (same : (k : ℕ) → k < 13 → getD (lengthsOf c) k 0 ≡ getD (wantedOf c) k 0) where
+  pub shaped : both (leb 1 (c .intervals)) (leb (c .intervals) 35136) ≡ true → both (leb 1 (c .devices)) (leb (c .devices) 16) ≡ true
+      → Shaped c
+  unfolding lengthsOf wantedOf
+  shaped n d =
+      record {
+        intervals-least = within-least _ _ n;
+        intervals-most = within-most _ _ n;
+        devices-least = within-least _ _ d;
+        devices-most = within-most _ _ d;
+        kinds-long = same 0 (omega arith);
+        counts-long = same 1 (omega arith);
+        places-long = same 2 (omega arith);
+        drifts-long = same 3 (omega arith);
+        flow-long = same 4 (omega arith);
+        content-long = same 5 (omega arith);
+        temp-long = same 6 (omega arith);
+        press-long = same 7 (omega arith);
+        status-long = same 8 (omega arith);
+        factor-long = same 12 (omega arith);
+      }
+
+  outcome-is : c .outcome-length ≡ c .devices * c .intervals
+  unfolding lengthsOf wantedOf
+  outcome-is = same 9 (omega arith)
+
+  flow-row-is : c .flow-row-length ≡ c .devices * c .intervals
+  unfolding lengthsOf wantedOf
+  flow-row-is = same 10 (omega arith)
+
+  content-row-is : c .content-row-length ≡ c .devices * c .intervals
+  unfolding lengthsOf wantedOf
+  content-row-is = same 11 (omega arith)
+
+-- a scan of the lengths that finds none of the 13 wrong
+pub lengths-same : (c : Call) (r : ℕ) → FirstOf 13 (λ k. not (eqb (getD (lengthsOf c) k 0) (getD (wantedOf c) k 0))) r → 13 ≤ r
+    → (k : ℕ) → k < 13 → getD (lengthsOf c) k 0 ≡ getD (wantedOf c) k 0
+lengths-same c r x h k l = eqb-true _ _ (not-false _ (x .before k (omega arith)))
+
+-- ---- one step that is clear
+
+either-first : (a b : Bool) → either a b ≡ false → a ≡ false
+either-first false b e = refl
+either-first true b e = e
+
+either-second : (a b : Bool) → either a b ≡ false → b ≡ false
+either-second false b e = e
+either-second true b e = let z : _≡_ {A = ℕ} 0 1 = cc in absurd (let w : ⊥ = omega arith in w)
+
+both-second : (a b : Bool) → a ≡ true → both a b ≡ false → b ≡ false
+both-second true b p e = e
+both-second false b p e = let z : _≡_ {A = ℕ} 0 1 = cc in absurd (let w : ⊥ = omega arith in w)
+
+-- a check's three tests
+three-false : (a b d : Bool) → either a (either (not b) d) ≡ false → (a ≡ false) × (b ≡ true) × (d ≡ false)
+three-false a b d e =
+    let q = either-second a (either (not b) d) e in
+    (either-first a (either (not b) d) e, not-false b (either-first (not b) d q), either-second (not b) d q)
+
+module _ (c : Call) where
+  intervals-clear : Clear (intervalsStep c) → both (leb 1 (c .intervals)) (leb (c .intervals) 35136) ≡ true
+  unfolding intervalsStep
+  intervals-clear x = not-false _ (x .clear 0 (omega arith))
+
+  devices-clear : Clear (devicesStep c) → both (leb 1 (c .devices)) (leb (c .devices) 16) ≡ true
+  unfolding devicesStep
+  devices-clear x = not-false _ (x .clear 0 (omega arith))
+
+  lengths-clear : Clear (lengthsStep c) → (k : ℕ) → k < 13 → getD (lengthsOf c) k 0 ≡ getD (wantedOf c) k 0
+  unfolding lengthsStep
+  lengths-clear x k h = eqb-true _ _ (not-false _ (x .clear k h))
+
+  mine-clear : Clear (mineStep c) → c .mine ≤ 1
+  unfolding mineStep
+  mine-clear x = leb-true _ _ (not-false _ (x .clear 0 (omega arith)))
+
+-- thing t of instrument g
+module _ (c : Call) (x : Clear (checksStep c)) (g : ℕ) (h : g < 2 * c .devices) where
+  thing-clear : (t : ℕ) → t < 33 → wrongThing (c .intervals) (c .counts) (c .places) (c .drifts) g t ≡ false
+  unfolding checksStep
+  thing-clear t l =
+      ap₂ (wrongThing (c .intervals) (c .counts) (c .places) (c .drifts))
+      (sym (mul-add-div {m = 33} (omega arith) g t ∙ ap (λ (q : ℕ). g + q) (div-eq-of-lt l) ∙ (let z : g + 0 ≡ g = omega arith in z)))
+      (sym (mul-add-mod-self-left 33 g t ∙ mod-eq-of-lt l))
+      ∙ x .clear (33 * g + t) (omega arith)
+
+  count-clear : getD (c .counts) g 0 ≤ 32
+  unfolding wrongThing
+  count-clear = ltb-false _ _ (thing-clear 0 (omega arith))
+
+  check-clear : (j : ℕ) → j < getD (c .counts) g 0 → wrongCheck (c .intervals) (c .places) (c .drifts) g j ≡ false
+  unfolding wrongThing
+  check-clear j l =
+      both-second (ltb j (getD (c .counts) g 0)) (wrongCheck (c .intervals) (c .places) (c .drifts) g j) (lt-ltb _ _ l)
+      (thing-clear (suc j) (let z : getD (c .counts) g 0 ≤ 32 = count-clear in omega arith))
+
+  checked : (j : ℕ) → j < getD (c .counts) g 0
+      → (ltb (c .intervals) (getD (c .places) (32 * g + j) 0) ≡ false)
+      × (driftRight (getD (c .drifts) (32 * g + j) (pos 0)) ≡ true)
+      × (both (ltb 0 j) (leb (getD (c .places) (32 * g + j) 0) (getD (c .places) (32 * g + (j - 1)) 0)) ≡ false)
+  unfolding wrongCheck
+  checked j l =
+      three-false (ltb (c .intervals) (getD (c .places) (32 * g + j) 0)) (driftRight (getD (c .drifts) (32 * g + j) (pos 0)))
+      (both (ltb 0 j) (leb (getD (c .places) (32 * g + j) 0) (getD (c .places) (32 * g + (j - 1)) 0)))
+      (check-clear j l)
+
+  -- a check and the next one
+  next-clear : (j : ℕ) → suc j < getD (c .counts) g 0 → getD (c .places) (32 * g + j) 0 < getD (c .places) (32 * g + suc j) 0
+  next-clear j l =
+      leb-false (getD (c .places) (32 * g + suc j) 0) (getD (c .places) (32 * g + j) 0)
+      (both-second (ltb 0 (suc j)) (leb (getD (c .places) (32 * g + suc j) 0) (getD (c .places) (32 * g + j) 0))
+      (lt-ltb 0 (suc j) (omega arith))
+      (subst
+      (λ (i : ℕ). both (ltb 0 (suc j)) (leb (getD (c .places) (32 * g + suc j) 0) (getD (c .places) (32 * g + i) 0)) ≡ false)
+      (let z : suc j - 1 ≡ j = omega arith in z)
+      (checked (suc j) l .2)))
+
+  rise-clear : (j k : ℕ) → j < k → k < getD (c .counts) g 0 → getD (c .places) (32 * g + j) 0 < getD (c .places) (32 * g + k) 0
+  rise-clear j zero l m = absurd (not-suc-le-zero l)
+  rise-clear j (suc k) l m =
+      ⊎-elim
+      (λ e. subst (λ (i : ℕ). getD (c .places) (32 * g + i) 0 < getD (c .places) (32 * g + suc k) 0) (sym e) (next-clear k m))
+      (λ q.
+      let a : getD (c .places) (32 * g + j) 0 < getD (c .places) (32 * g + k) 0 = rise-clear j k q (omega arith) in
+      let b : getD (c .places) (32 * g + k) 0 < getD (c .places) (32 * g + suc k) 0 = next-clear k m in
+      omega arith)
+      (eq-or-lt-of-le (le-of-suc-le-suc l))
+
+-- one device-interval
+pub record Right (c : Call) (k : ℕ) : Type 0 where
+  pub flow-is : flowRight (getD (c .flow) k 0) ≡ true
+  pub content-is : contentRight (getD (c .content) k 0) ≡ true
+  pub temp-is : tempRight (getD (c .temp) k (pos 0)) ≡ true
+  pub press-is : pressRight (getD (c .press) k 0) ≡ true
+  pub status-is : statusRight (getD (c .status) k 0) ≡ true
+
+five-true : (a b c d e : Bool) → not (both a (both b (both c (both d e)))) ≡ false
+    → (a ≡ true) × (b ≡ true) × (c ≡ true) × (d ≡ true) × (e ≡ true)
+five-true a b c d e h =
+    let p = both-true a (both b (both c (both d e))) (not-false _ h) in
+    let q = both-true b (both c (both d e)) (p .1) in
+    let r = both-true c (both d e) (q .1) in
+    let s = both-true d e (r .1) in
+    (p .0, q .0, r .0, s .0, s .1)
+
+readings-clear : (c : Call) → Clear (readingsStep c) → (k : ℕ) → k < c .devices * c .intervals → Right c k
+unfolding readingsStep wrongReading
+readings-clear c x k h =
+    let v = five-true (flowRight (getD (c .flow) k 0)) (contentRight (getD (c .content) k 0)) (tempRight (getD (c .temp) k (pos 0)))
+    (pressRight (getD (c .press) k 0)) (statusRight (getD (c .status) k 0)) (x .clear k h) in
+    record { flow-is = v .0; content-is = v .1; temp-is = v .2; press-is = v .3; status-is = v .4 }
+
+module _ (c : Call) (x : Clear (fuelsStep c)) where
+  fuels-clear : length (c .quantity) ≤ 64
+  unfolding fuelsStep wrongFuel
+  fuels-clear = ltb-false _ _ (x .clear 0 (omega arith))
+
+  line-clear : (j : ℕ) → j < length (c .quantity)
+      → (ltb 1000000000 (getD (c .quantity) j 0) ≡ false) × (ltb 4000000 (getD (c .factor) j 0) ≡ false)
+  unfolding fuelsStep wrongFuel
+  line-clear j h =
+      let e : either (ltb 1000000000 (getD (c .quantity) j 0)) (ltb 4000000 (getD (c .factor) j 0)) ≡ false
+      = x .clear (suc j) (omega arith) in (
+        either-first (ltb 1000000000 (getD (c .quantity) j 0)) (ltb 4000000 (getD (c .factor) j 0)) e,
+        either-second (ltb 1000000000 (getD (c .quantity) j 0)) (ltb 4000000 (getD (c .factor) j 0)) e,
+      )
+
+-- ---- a call that is not refused
+
+head-clear : {s : Step} {ss : List Step} → AllClear (s ∷ ss) → Clear s
+head-clear (AllClear.more x y) = x
+
+tail-clear : {s : Step} {ss : List Step} → AllClear (s ∷ ss) → AllClear ss
+tail-clear (AllClear.more x y) = y
+
+all-accepted : (c : Call) → AllClear (stepsOf c) → Accepted c
+unfolding kindsStep misplacedStep
+all-accepted c a =
+    let a2 = tail-clear a in
+    let a3 = tail-clear a2 in
+    let a4 = tail-clear a3 in
+    let a5 = tail-clear a4 in
+    let a6 = tail-clear a5 in
+    let a7 = tail-clear a6 in
+    let a8 = tail-clear a7 in
+    let a9 = tail-clear a8 in
+    let same = lengths-clear c (head-clear a3) in
+    let checks : Clear (checksStep c) = head-clear a7 in
+    let reads = readings-clear c (head-clear a8) in
+    let fuels : Clear (fuelsStep c) = head-clear a9 in
+    record {
+      shape = shaped c same (intervals-clear c (head-clear a)) (devices-clear c (head-clear a2));
+      outcome-long = outcome-is c same;
+      flow-row-long = flow-row-is c same;
+      content-row-long = content-row-is c same;
+      mine-most = mine-clear c (head-clear a4);
+      kind-right = λ d h. not-false _ (head-clear a5 .clear d h);
+      kind-placed = λ d h. head-clear a6 .clear d h;
+      count-most = count-clear c checks;
+      place-most = λ g j h l. ltb-false _ _ (checked c checks g h j l .0);
+      drift-right = λ g j h l. checked c checks g h j l .1;
+      places-rise = λ g j k h. rise-clear c checks g h j k;
+      flow-right = λ k h. reads k h .flow-is;
+      content-right = λ k h. reads k h .content-is;
+      temp-right = λ k h. reads k h .temp-is;
+      press-right = λ k h. reads k h .press-is;
+      status-right = λ k h. reads k h .status-is;
+      fuels-most = fuels-clear c fuels;
+      quantity-most = λ j h. ltb-false _ _ (line-clear c fuels j h .0);
+      factor-most = λ j h. ltb-false _ _ (line-clear c fuels j h .1);
+    }
+
+pub accepted : (c : Call) → judged c ≡ Clean → Accepted c
+unfolding judged
+accepted c e = all-accepted c (clean-clear (stepsOf c) e)
+
+-- ---- the same of a whole call
+
+pub judged-clear : (c : Call) → judged c ≡ Clean → AllClear (stepsOf c)
+unfolding judged
+judged-clear c = clean-clear (stepsOf c)
+
+pub judged-clean : (c : Call) → AllClear (stepsOf c) → judged c ≡ Clean
+unfolding judged
+judged-clean c = clear-clean (stepsOf c)
+
+pub judged-refuses : (c : Call) (r : Refusal) → judged c ≡ Refused r → Refuses (stepsOf c) r
+unfolding judged
+judged-refuses c = refused-first (stepsOf c)
+
+pub judged-refused : (c : Call) (r : Refusal) → Refuses (stepsOf c) r → judged c ≡ Refused r
+unfolding judged
+judged-refused c = first-refused (stepsOf c)
