@@ -1,26 +1,25 @@
 -- What is known of a call: its shape where steps 1 to 3 are clear, and all of `Accepted` where every step is.
 -- Assumes nothing.
-use Prim.Native.Nat.{ℕ, zero, suc, _+_, _-_, _*_, _/_, _%_, _≤_, _<_}
+use Prim.Native.Nat.{ℕ, zero, suc, _+_, _-_, _*_, _≤_, _<_}
 use mathlib.Core.Path.{_≡_, refl, sym, ap, ap₂, _∙_, subst}
 use mathlib.Core.Bool.{Bool, true, false, not}
-use mathlib.Core.Logic.{_⊎_, ⊎-elim}
-use mathlib.Core.List.{List, [], _∷_}
+use mathlib.Core.Logic.{⊎-elim}
 use native.Mathlib.Nat.{not-suc-le-zero, le-of-suc-le-suc, eq-or-lt-of-le, mul-add-div, div-eq-of-lt, mul-add-mod-self-left, mod-eq-of-lt, mul-le-mul}
 use native.Mathlib.Omega.{arith}
 use lib.Dec.{eqb, ltb, leb}
-use lib.IntN.{ℤ, pos}
+use lib.IntN.{pos}
 use lib.ListN.{length, getD}
-use borrow.Author.Tests.{leb-true, leb-false, ltb-false, lt-ltb, eqb-true, not-true, not-false}
+use borrow.Author.Tests.{leb-true, leb-false, ltb-false, lt-ltb, eqb-true, not-false}
 use Rattle.rows.specs.Rows.{both, either, FirstOf}
 use Rattle.rows.proofs.Laws.{both-true}
-use Rattle.protocol.specs.Kinds.{isMine}
+use Rattle.protocol.specs.Kinds.{isKind, misplaced}
 use Rattle.protocol.specs.Ranges.{flowRight, contentRight, tempRight, pressRight, statusRight, driftRight}
 use Rattle.checks.specs.Call.{Call}
-use Rattle.checks.specs.Steps.{intervalsStep, devicesStep, lengthsOf, wantedOf, lengthsStep, mineStep, kindsStep, misplacedStep, wrongCheck, wrongThing, checksStep, wrongReading, readingsStep, wrongFuel, fuelsStep, Step, verdictOf, valueSteps, stepsOf, judged}
+use Rattle.checks.specs.Steps.{intervalsStep, devicesStep, lengthsOf, wantedOf, lengthsStep, mineStep, kindsStep, misplacedStep, wrongCheck, wrongThing, checksStep, wrongReading, readingsStep, wrongFuel, fuelsStep, verdictOf, valueSteps, stepsOf, judged}
 use Rattle.checks.specs.Accepted.{Clear, AllClear, Refuses, Shaped, Accepted}
 use Rattle.checks.specs.declared.Refusal.{Refusal}
 use Rattle.checks.specs.declared.Verdict.the-variants.{Clean, Refused}
-use Rattle.checks.proofs.Verdicts.{clean-clear, clear-clean, refused-first, first-refused, refuses-unique}
+use Rattle.checks.proofs.Verdicts.{clean-clear, clear-clean, refused-first, first-refused, Among, clear-of}
 
 -- ---- bounds
 
@@ -160,6 +159,14 @@ module _ (c : Call) where
   unfolding mineStep
   mine-clear x = leb-true _ _ (not-false _ (x .clear 0 (omega arith)))
 
+  kinds-clear : Clear (kindsStep c) → (d : ℕ) → d < c .devices → isKind (getD (c .kinds) d 0) ≡ true
+  unfolding kindsStep
+  kinds-clear x d h = not-false (isKind (getD (c .kinds) d 0)) (x .clear d h)
+
+  placed-clear : Clear (misplacedStep c) → (d : ℕ) → d < c .devices → misplaced (c .mine) (getD (c .kinds) d 0) ≡ false
+  unfolding misplacedStep
+  placed-clear x d h = x .clear d h
+
 -- thing t of instrument g
 module _ (c : Call) (x : Clear (checksStep c)) (g : ℕ) (h : g < 2 * c .devices) where
   thing-clear : (t : ℕ) → t < 33 → wrongThing (c .intervals) (c .counts) (c .places) (c .drifts) g t ≡ false
@@ -253,35 +260,27 @@ module _ (c : Call) (x : Clear (fuelsStep c)) where
 
 -- ---- a call that is not refused
 
-head-clear : {s : Step} {ss : List Step} → AllClear (s ∷ ss) → Clear s
-head-clear (AllClear.more x y) = x
-
-tail-clear : {s : Step} {ss : List Step} → AllClear (s ∷ ss) → AllClear ss
-tail-clear (AllClear.more x y) = y
-
 all-accepted : (c : Call) → AllClear (stepsOf c) → Accepted c
-unfolding kindsStep misplacedStep
 all-accepted c a =
-    let a2 = tail-clear a in
-    let a3 = tail-clear a2 in
-    let a4 = tail-clear a3 in
-    let a5 = tail-clear a4 in
-    let a6 = tail-clear a5 in
-    let a7 = tail-clear a6 in
-    let a8 = tail-clear a7 in
-    let a9 = tail-clear a8 in
-    let same = lengths-clear c (head-clear a3) in
-    let checks : Clear (checksStep c) = head-clear a7 in
-    let reads = readings-clear c (head-clear a8) in
-    let fuels : Clear (fuelsStep c) = head-clear a9 in
+    let intervals : Clear (intervalsStep c) = clear-of a (search (Among.top, Among.under) depth 12) in
+    let devices : Clear (devicesStep c) = clear-of a (search (Among.top, Among.under) depth 12) in
+    let lengths : Clear (lengthsStep c) = clear-of a (search (Among.top, Among.under) depth 12) in
+    let mine : Clear (mineStep c) = clear-of a (search (Among.top, Among.under) depth 12) in
+    let kinds : Clear (kindsStep c) = clear-of a (search (Among.top, Among.under) depth 12) in
+    let placed : Clear (misplacedStep c) = clear-of a (search (Among.top, Among.under) depth 12) in
+    let checks : Clear (checksStep c) = clear-of a (search (Among.top, Among.under) depth 12) in
+    let readings : Clear (readingsStep c) = clear-of a (search (Among.top, Among.under) depth 12) in
+    let fuels : Clear (fuelsStep c) = clear-of a (search (Among.top, Among.under) depth 12) in
+    let same = lengths-clear c lengths in
+    let reads = readings-clear c readings in
     record {
-      shape = shaped c same (intervals-clear c (head-clear a)) (devices-clear c (head-clear a2));
+      shape = shaped c same (intervals-clear c intervals) (devices-clear c devices);
       outcome-long = outcome-is c same;
       flow-row-long = flow-row-is c same;
       content-row-long = content-row-is c same;
-      mine-most = mine-clear c (head-clear a4);
-      kind-right = λ d h. not-false _ (head-clear a5 .clear d h);
-      kind-placed = λ d h. head-clear a6 .clear d h;
+      mine-most = mine-clear c mine;
+      kind-right = kinds-clear c kinds;
+      kind-placed = placed-clear c placed;
       count-most = count-clear c checks;
       place-most = λ g j h l. ltb-false _ _ (checked c checks g h j l .0);
       drift-right = λ g j h l. checked c checks g h j l .1;

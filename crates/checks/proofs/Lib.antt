@@ -1,3 +1,4 @@
 pub mod Tests
 pub mod Verdicts
 pub mod Laws
+pub mod Parts

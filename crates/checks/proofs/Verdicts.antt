@@ -1,20 +1,18 @@
 -- The first refusal of a list of steps: how a scan's answer settles one step, what a verdict means, and that it is the only one.
 -- Assumes nothing.
-use Prim.Native.Nat.{ℕ, zero, suc, _+_, _-_, _*_, _≤_, _<_}
+use Prim.Native.Nat.{ℕ, _≤_, _<_}
 use mathlib.Core.Path.{_≡_, refl, sym, ap, _∙_, subst}
-use mathlib.Core.Bool.{Bool, true, false, not}
+use mathlib.Core.Bool.{Bool, true, false}
 use mathlib.Core.List.{List, [], _∷_}
-use native.Mathlib.Nat.{not-suc-le-zero}
 use native.Mathlib.Omega.{arith}
 use lib.Dec.{ltb}
 use borrow.Author.Tests.{lt-ltb, le-ltb, ltb-true, ltb-false}
-use Rattle.rows.specs.Rows.{pick, first, FirstOf}
+use Rattle.rows.specs.Rows.{pick, FirstOf}
 use Rattle.rows.proofs.Laws.{first-of, first-is}
 use Rattle.rows.proofs.Scan.{passed-none, passed-more, passed-found, passed-all}
 use Rattle.checks.specs.Steps.{Step, offender, verdictOf}
 use Rattle.checks.specs.Accepted.{Clear, AllClear, Refuses}
 use Rattle.checks.specs.declared.Refusal.{Refusal}
-use Rattle.checks.specs.declared.Verdict.{Verdict}
 use Rattle.checks.specs.declared.Verdict.the-variants.{Clean, Refused}
 
 -- ---- a scan's answer settles its step
@@ -115,3 +113,13 @@ refuses-unclear ss r x y =
     let b : verdictOf ss ≡ Clean = clear-clean ss y in
     let z : _≡_ {A = ℕ} 0 1 = cc in
     zero-is-one z
+
+-- ---- one step of many, wherever it stands in the order
+
+pub data Among : Step → List Step → Type 0 where
+  top : {s : Step} {ss : List Step} → Among s (s ∷ ss)
+  under : {s t : Step} {ss : List Step} → Among s ss → Among s (t ∷ ss)
+
+pub clear-of : {s : Step} {ss : List Step} → AllClear ss → Among s ss → Clear s
+clear-of (AllClear.more x y) Among.top = x
+clear-of (AllClear.more x y) (Among.under m) = clear-of y m

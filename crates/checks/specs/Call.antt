@@ -1,6 +1,6 @@
 -- What is lent to quantification, whole: the contracts above speak of one call.
 -- Assumes nothing.
-use Prim.Native.Nat.{ℕ, _+_, _*_}
+use Prim.Native.Nat.{ℕ}
 use mathlib.Core.List.{List}
 use lib.IntN.{ℤ}
 

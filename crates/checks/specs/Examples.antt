@@ -1,13 +1,13 @@
 -- Refusals that compute: calls of two devices and three intervals in which one or two things are wrong.
 -- Assumes nothing.
-use Prim.Native.Nat.{ℕ, _+_, _*_}
+use Prim.Native.Nat.{ℕ}
 use mathlib.Core.Path.{_≡_, refl}
 use mathlib.Core.List.{List, [], _∷_, _++_}
-use lib.IntN.{ℤ, pos, negsuc}
+use lib.IntN.{negsuc}
 use Rattle.rows.specs.Rows.{build}
 use Rattle.checks.specs.Call.{Call}
-use Rattle.checks.specs.Steps.{numberOf, deviceOf, placeOf, verdictOf, intervalsStep, devicesStep, lengthsOf, wantedOf, lengthsStep, mineStep, kindsStep, misplacedStep, wrongCheck, wrongThing, checksStep, wrongReading, readingsStep, wrongFuel, fuelsStep, judged}
-use Rattle.checks.specs.declared.Refusal.the-variants.{Intervals, Devices, Lengths, Mine, Kind, Misplaced, Check, Reading, Fuel}
+use Rattle.checks.specs.Steps.{numberOf, verdictOf, intervalsStep, devicesStep, lengthsOf, wantedOf, lengthsStep, mineStep, kindsStep, misplacedStep, wrongCheck, wrongThing, checksStep, wrongReading, readingsStep, wrongFuel, fuelsStep, judged}
+use Rattle.checks.specs.declared.Refusal.the-variants.{Lengths, Kind, Misplaced, Check, Reading, Fuel}
 use Rattle.checks.specs.declared.Verdict.the-variants.{Clean, Refused}
 
 -- what the examples vary: the mine, the kinds, the check counts, the first positions of device 0, the flow, the fuel lines
