@@ -25,32 +25,34 @@ use Rattle.devices.specs.Totals.{countIn, countedIn, replacedIn, exclude
 
 -- what the code adds up is what the specification adds
 pub added-is : (t : Totals) (a : Account) (b c u : ℕ) → b ≡ methaneMg * a .methane → c ≡ carbonDioxideMg (a .destroyed) → u ≡ methaneMg * a .uncombusted
-  → record
-      { counted = t .counted + (getD (a .counts) 0 0 + getD (a .counts) 1 0 + getD (a .counts) 2 0);
-        replaced = t .replaced + (getD (a .counts) 1 0 + getD (a .counts) 2 0);
-        excluded = t .excluded + (getD (a .counts) 3 0 + getD (a .counts) 4 0 + getD (a .counts) 5 0 + getD (a .counts) 6 0 + getD (a .counts) 7 0 + getD (a .counts) 8 0 + getD (a .counts) 9 0);
-        methane = t .methane + a .methane;
-        destroyed = t .destroyed + a .destroyed;
-        uncombusted = t .uncombusted + a .uncombusted;
-        «baseline_mg» = t .«baseline_mg» + b;
-        «co2_mg» = t .«co2_mg» + c;
-        «uncombusted_mg» = t .«uncombusted_mg» + u }
-  ≡ added t a
+    → record {
+      counted = t .counted + (getD (a .counts) 0 0 + getD (a .counts) 1 0 + getD (a .counts) 2 0);
+      replaced = t .replaced + (getD (a .counts) 1 0 + getD (a .counts) 2 0);
+      excluded = t .excluded + (getD (a .counts) 3 0 + getD (a .counts) 4 0 + getD (a .counts) 5 0 + getD (a .counts) 6 0 + getD (a .counts) 7 0 + getD (a .counts) 8 0 + getD (a .counts) 9 0);
+      methane = t .methane + a .methane;
+      destroyed = t .destroyed + a .destroyed;
+      uncombusted = t .uncombusted + a .uncombusted;
+      «baseline_mg» = t .«baseline_mg» + b;
+      «co2_mg» = t .«co2_mg» + c;
+      «uncombusted_mg» = t .«uncombusted_mg» + u;
+    }
+    ≡ added t a
 unfolding added baselineMg uncombustedMg
 added-is t a b c u p q r i =
-    record
-      { counted = t .counted + (getD (a .counts) 0 0 + getD (a .counts) 1 0 + getD (a .counts) 2 0);
-        replaced = t .replaced + (getD (a .counts) 1 0 + getD (a .counts) 2 0);
-        excluded = same i;
-        methane = t .methane + a .methane;
-        destroyed = t .destroyed + a .destroyed;
-        uncombusted = t .uncombusted + a .uncombusted;
-        «baseline_mg» = t .«baseline_mg» + p i;
-        «co2_mg» = t .«co2_mg» + q i;
-        «uncombusted_mg» = t .«uncombusted_mg» + r i }
+    record {
+      counted = t .counted + (getD (a .counts) 0 0 + getD (a .counts) 1 0 + getD (a .counts) 2 0);
+      replaced = t .replaced + (getD (a .counts) 1 0 + getD (a .counts) 2 0);
+      excluded = same i;
+      methane = t .methane + a .methane;
+      destroyed = t .destroyed + a .destroyed;
+      uncombusted = t .uncombusted + a .uncombusted;
+      «baseline_mg» = t .«baseline_mg» + p i;
+      «co2_mg» = t .«co2_mg» + q i;
+      «uncombusted_mg» = t .«uncombusted_mg» + r i;
+    }
   where
     same : t .excluded + (getD (a .counts) 3 0 + getD (a .counts) 4 0 + getD (a .counts) 5 0 + getD (a .counts) 6 0 + getD (a .counts) 7 0 + getD (a .counts) 8 0 + getD (a .counts) 9 0)
-      ≡ t .excluded + sumTo 7 (λ j. getD (a .counts) (3 + j) 0)
+        ≡ t .excluded + sumTo 7 (λ j. getD (a .counts) (3 + j) 0)
     same = omega arith
 
 hit-most : (x j : ℕ) → hit x j ≤ 1
@@ -69,7 +71,7 @@ module _ (l : Lent) (devices : ℕ) (x : Sound l devices) (d : ℕ) (h : d < dev
   unfolding recordsOf
   row-long =
       length-cut (l .flow) (d * l .intervals) (d * l .intervals + l .intervals) (omega arith)
-        (subst (λ (m : ℕ). d * l .intervals + l .intervals ≤ m) (sym (x .flow-long)) (room (l .intervals) d devices h))
+      (subst (λ (m : ℕ). d * l .intervals + l .intervals ≤ m) (sym (x .flow-long)) (room (l .intervals) d devices h))
       ∙ add-sub-cancel-left (d * l .intervals) (l .intervals)
 
   counts-are : (j : ℕ) → j < 10 → getD (accountOf (recordsOf l d) .counts) j 0 ≡ countIn l d j
@@ -94,16 +96,17 @@ module _ (l : Lent) (devices : ℕ) (x : Sound l devices) (d : ℕ) (h : d < dev
   pub totals-more : totalsOf l (suc d) ≡ added (totalsOf l d) (accountOf (recordsOf l d))
   unfolding totalsOf added accountOf litresIn recordsOf baselineAll carbonDioxideAll uncombustedAll
   totals-more i =
-      record
-        { counted = sumTo d (countedIn l) + counted-are i;
-          replaced = sumTo d (replacedIn l) + replaced-are i;
-          excluded = sumTo d (excludedIn l) + excluded-are i;
-          methane = sumTo (suc d) (litresIn l);
-          destroyed = overDevices destroyedOf (suc d) (kindIn l) (litresIn l);
-          uncombusted = overDevices uncombustedOf (suc d) (kindIn l) (litresIn l);
-          «baseline_mg» = baselineAll (suc d) (kindIn l) (litresIn l);
-          «co2_mg» = carbonDioxideAll (suc d) (kindIn l) (litresIn l);
-          «uncombusted_mg» = uncombustedAll (suc d) (kindIn l) (litresIn l) }
+      record {
+        counted = sumTo d (countedIn l) + counted-are i;
+        replaced = sumTo d (replacedIn l) + replaced-are i;
+        excluded = sumTo d (excludedIn l) + excluded-are i;
+        methane = sumTo (suc d) (litresIn l);
+        destroyed = overDevices destroyedOf (suc d) (kindIn l) (litresIn l);
+        uncombusted = overDevices uncombustedOf (suc d) (kindIn l) (litresIn l);
+        «baseline_mg» = baselineAll (suc d) (kindIn l) (litresIn l);
+        «co2_mg» = carbonDioxideAll (suc d) (kindIn l) (litresIn l);
+        «uncombusted_mg» = uncombustedAll (suc d) (kindIn l) (litresIn l);
+      }
 
   -- a device's litres in a year
   pub litres-most : litresIn l d ≤ deviceMost
@@ -121,7 +124,7 @@ account-past r j h =
     let z : getD (accountOf r .counts) j 0 ≡ 0 = List·getD-eq-default (accountOf r .counts) 0 (omega (arith, account-ten r)) in omega arith
 
 account-most : (r : Records) → Right r
-  → (accountOf r .methane ≤ deviceMost) × (accountOf r .destroyed ≤ accountOf r .methane) × (accountOf r .uncombusted ≤ accountOf r .methane)
+    → (accountOf r .methane ≤ deviceMost) × (accountOf r .destroyed ≤ accountOf r .methane) × (accountOf r .uncombusted ≤ accountOf r .methane)
 unfolding accountOf
 account-most r x = (device-most r x, destroyed-le (r .kind) (methaneOf r), uncombusted-le (r .kind) (methaneOf r))
 
@@ -140,36 +143,44 @@ module _ (l : Lent) (devices : ℕ) (x : Sound l devices) where
   pub room-for : (d : ℕ) → d < devices → Room (totalsOf l d) (accountOf (recordsOf l d))
   unfolding totalsOf countedIn replacedIn excludedIn baselineAll carbonDioxideAll uncombustedAll
   room-for d h =
-      record
-        { ten = ten;
-          count-most = λ j. elim (decLe 10 j) [ yes z ↦ past j z | no z ↦ inside j (lt-of-not-le z) ];
-          methane-most = methane;
-          destroyed-most = le-trans destroyed methane;
-          uncombusted-most = le-trans uncombusted methane;
-          counted-room = sum-room (countedIn l) 200000 (omega arith) d (omega arith) (λ k z. let a = count-least k 0 (below k z) in let b = count-least k 1 (below k z) in let c = count-least k 2 (below k z) in omega arith);
-          replaced-room = sum-room (replacedIn l) 200000 (omega arith) d (omega arith) (λ k z. let b = count-least k 1 (below k z) in let c = count-least k 2 (below k z) in omega arith);
-          excluded-room = sum-room (excludedIn l) 300000 (omega arith) d (omega arith) (λ k z. let s : sumTo 7 (λ j. countIn l k (3 + j)) ≤ 7 * 35136 = sumTo-bound 7 35136 (λ j. countIn l k (3 + j)) (λ j y. count-least k (3 + j) (below k z)) in omega arith);
-          methane-room = sum-room (litresIn l) deviceMost (omega arith) d (omega arith) (λ k z. litres-most l devices x k (below k z));
-          destroyed-room = sum-room (λ k. destroyedOf (kindIn l k) (litresIn l k)) deviceMost (omega arith) d (omega arith) (λ k z. le-trans (destroyed-le (kindIn l k) (litresIn l k)) (litres-most l devices x k (below k z)));
-          uncombusted-room = sum-room (λ k. uncombustedOf (kindIn l k) (litresIn l k)) deviceMost (omega arith) d (omega arith) (λ k z. le-trans (uncombusted-le (kindIn l k) (litresIn l k)) (litres-most l devices x k (below k z)));
-          baseline-room = let z = baseline-most d (kindIn l) (litresIn l) small (λ k y. litres-most l devices x k (below k y)) in omega arith;
-          co2-room = let z = carbon-most d (kindIn l) (litresIn l) small (λ k y. litres-most l devices x k (below k y)) in omega arith;
-          uncombusted-mg-room = let z = uncombusted-most d (kindIn l) (litresIn l) small (λ k y. litres-most l devices x k (below k y)) in omega arith }
+      record {
+        ten = ten;
+        count-most = λ j. elim (decLe 10 j) [ yes z ↦ past j z | no z ↦ inside j (lt-of-not-le z) ];
+        methane-most = methane;
+        destroyed-most = le-trans destroyed methane;
+        uncombusted-most = le-trans uncombusted methane;
+        counted-room = sum-room (countedIn l) 200000 (omega arith) d (omega arith) (λ k z. let a = count-least k 0 (below k z) in let b = count-least k 1 (below k z) in let c = count-least k 2 (below k z) in omega arith);
+        replaced-room = sum-room (replacedIn l) 200000 (omega arith) d (omega arith) (λ k z. let b = count-least k 1 (below k z) in let c = count-least k 2 (below k z) in omega arith);
+        excluded-room = sum-room (excludedIn l) 300000 (omega arith) d (omega arith) (λ k z. let s : sumTo 7 (λ j. countIn l k (3 + j)) ≤ 7 * 35136 = sumTo-bound 7 35136 (λ j. countIn l k (3 + j)) (λ j y. count-least k (3 + j) (below k z)) in omega arith);
+        methane-room = sum-room (litresIn l) deviceMost (omega arith) d (omega arith) (λ k z. litres-most l devices x k (below k z));
+        destroyed-room = sum-room (λ k. destroyedOf (kindIn l k) (litresIn l k)) deviceMost (omega arith) d (omega arith) (λ k z. le-trans (destroyed-le (kindIn l k) (litresIn l k)) (litres-most l devices x k (below k z)));
+        uncombusted-room = sum-room (λ k. uncombustedOf (kindIn l k) (litresIn l k)) deviceMost (omega arith) d (omega arith) (λ k z. le-trans (uncombusted-le (kindIn l k) (litresIn l k)) (litres-most l devices x k (below k z)));
+        baseline-room = let z = baseline-most d (kindIn l) (litresIn l) small (λ k y. litres-most l devices x k (below k y)) in omega arith;
+        co2-room = let z = carbon-most d (kindIn l) (litresIn l) small (λ k y. litres-most l devices x k (below k y)) in omega arith;
+        uncombusted-mg-room = let z = uncombusted-most d (kindIn l) (litresIn l) small (λ k y. litres-most l devices x k (below k y)) in omega arith;
+      }
     where
       below : (k : ℕ) → k < d → k < devices
       below k z = omega arith
+
       small : d ≤ 16
       small = let z = x .few-devices in omega arith
+
       ten : length (accountOf (recordsOf l d) .counts) ≡ 10
       ten = account-ten (recordsOf l d)
+
       inside : (j : ℕ) → j < 10 → getD (accountOf (recordsOf l d) .counts) j 0 ≤ 35136
       inside j z = subst (λ (v : ℕ). v ≤ 35136) (sym (counts-are l devices x d h j z)) (count-least d j h)
+
       past : (j : ℕ) → 10 ≤ j → getD (accountOf (recordsOf l d) .counts) j 0 ≤ 35136
       past j z = account-past (recordsOf l d) j z
+
       methane : accountOf (recordsOf l d) .methane ≤ deviceMost
       methane = account-most (recordsOf l d) (x .right d h) .0
+
       destroyed : accountOf (recordsOf l d) .destroyed ≤ accountOf (recordsOf l d) .methane
       destroyed = account-most (recordsOf l d) (x .right d h) .1
+
       uncombusted : accountOf (recordsOf l d) .uncombusted ≤ accountOf (recordsOf l d) .methane
       uncombusted = account-most (recordsOf l d) (x .right d h) .2
 

@@ -2,13 +2,14 @@
 -- Assumes nothing.
 use Prim.Native.Nat.{ℕ, _+_, _*_, _≤_}
 use mathlib.Core.Path.{_≡_}
+use mathlib.Core.List.{List}
 use lib.ListN.{length, getD}
 use Rattle.rows.specs.Rows.{sumTo, countOf}
 use Rattle.device.specs.Device.{outcomeAt, methaneOf}
 use Rattle.device.specs.declared.Account.{Account}
 use Rattle.balance.specs.Balance.{destroyedOf, uncombustedOf, overDevices, baselineAll, carbonDioxideAll, uncombustedAll, baselineMg, carbonDioxideMg, uncombustedMg, deviceMost}
 use Rattle.devices.specs.declared.Totals.{Totals}
-use Rattle.devices.specs.Devices.{Lent, recordsOf}
+use Rattle.devices.specs.Devices.{Lent, recordsOf, rowsOf}
 
 -- how many intervals of device d have outcome j: "each count is the number of entries with that outcome"
 unfoldable pub countIn : Lent → ℕ → ℕ → ℕ
@@ -78,3 +79,10 @@ pub record Room (t : Totals) (a : Account) : Type 0 where
   pub baseline-room : t .«baseline_mg» ≤ 4611686018427387904
   pub co2-room : t .«co2_mg» ≤ 4611686018427387904
   pub uncombusted-mg-room : t .«uncombusted_mg» ≤ 4611686018427387904
+
+-- the rows of all devices and their totals
+pub record AllWritten (l : Lent) (devices : ℕ) (outcome flow content : List ℕ) (t : Totals) : Type 0 where
+  pub outcome-row : outcome ≡ rowsOf l devices .outcome
+  pub flow-row : flow ≡ rowsOf l devices .flow
+  pub content-row : content ≡ rowsOf l devices .content
+  pub totals : t ≡ totalsOf l devices

@@ -2,9 +2,8 @@
 ghost use Prim.Native.Nat.{ℕ, _+_, _*_, _≤_, _<_};
 ghost use mathlib.Core.Path.{_≡_};
 ghost use lib.ListN.{length};
-ghost use Rattle.rows.specs.Rows.{join};
-ghost use Rattle.devices.specs.Devices.{Lent, recordsOf, outcomePart, flowPart, contentPart, Sound, Written};
-ghost use Rattle.devices.specs.Totals.{totalsOf, added, Room};
+ghost use Rattle.devices.specs.Devices.{Sound, Written};
+ghost use Rattle.devices.specs.Totals.{added, Room, AllWritten};
 use device::Account;
 
 pub struct Totals {
@@ -117,4 +116,89 @@ fn one(
         &mut flow_used[a..e],
         &mut content_used[a..e],
     )
+}
+
+// The rows of all devices, device 0 first, and their sums. Ruled out: the first device done and the rest faked; a device
+// counted twice.
+pub fn fill_rows(
+    devices: usize,
+    n: usize,
+    kinds: &[u32],
+    counts: &[u32],
+    places: &[u32],
+    drifts: &[i32],
+    flow: &[u16],
+    content: &[u16],
+    temp: &[i16],
+    press: &[u32],
+    status: &[u8],
+    outcome: &mut [u8],
+    flow_used: &mut [u16],
+    content_used: &mut [u16],
+) -> Totals
+    requires { ⌜ Sound
+        (record {
+          intervals = n;
+          kinds = now kinds;
+          counts = now counts;
+          places = now places;
+          drifts = now drifts;
+          flow = now flow;
+          content = now content;
+          temp = now temp;
+          press = now press;
+          status = now status;
+        })
+        devices
+        × (length (now outcome) ≡ devices * n) × (length (now «flow_used») ≡ devices * n)
+        × (length (now «content_used») ≡ devices * n) ⌝ }
+    ensures { λ r. ⌜ AllWritten
+        (record {
+          intervals = n;
+          kinds = now (kinds .entry);
+          counts = now (counts .entry);
+          places = now (places .entry);
+          drifts = now (drifts .entry);
+          flow = now (flow .entry);
+          content = now (content .entry);
+          temp = now (temp .entry);
+          press = now (press .entry);
+          status = now (status .entry);
+        })
+        devices (now (outcome .exit)) (now («flow_used» .exit)) (now («content_used» .exit)) r ⌝ }
+{
+    let mut t = Totals {
+        counted: 0,
+        replaced: 0,
+        excluded: 0,
+        methane: 0,
+        destroyed: 0,
+        uncombusted: 0,
+        baseline_mg: 0,
+        co2_mg: 0,
+        uncombusted_mg: 0,
+    };
+    let mut d = 0;
+    while d < devices {
+        let a = one(
+            d,
+            devices,
+            n,
+            kinds,
+            counts,
+            places,
+            drifts,
+            flow,
+            content,
+            temp,
+            press,
+            status,
+            outcome,
+            flow_used,
+            content_used,
+        );
+        t = add(t, a);
+        d += 1;
+    }
+    t
 }

@@ -19,9 +19,17 @@ use Rattle.device.proofs.fill_row.Reads as fill-row-reads
 lent : tie.Start → Lent
 lent s =
     record {
-      intervals = s .args .n; kinds = s .args .kinds .now; counts = s .args .counts .now; places = s .args .places .now;
-      drifts = s .args .drifts .now; flow = s .args .flow .now; content = s .args .content .now; temp = s .args .temp .now;
-      press = s .args .press .now; status = s .args .status .now }
+      intervals = s .args .n;
+      kinds = s .args .kinds .now;
+      counts = s .args .counts .now;
+      places = s .args .places .now;
+      drifts = s .args .drifts .now;
+      flow = s .args .flow .now;
+      content = s .args .content .now;
+      temp = s .args .temp .now;
+      press = s .args .press .now;
+      status = s .args .status .now;
+    }
 
 -- src/lib.rt:100:13
 mul-a : tie.Need-mul-a
@@ -229,9 +237,9 @@ unfolding recordsOf
 fill-row-requires c κs = let s = c .before .before .before .before .before .before .before .before .before .before .before .before .before .before .before .before .before .before .before .before .before .before in
     let p = s .pre in
     let part : (xs : List ℕ) → length xs ≡ s .args .devices * s .args .n
-      → length (cut xs (s .args .d * s .args .n) (s .args .d * s .args .n + s .args .n))
-      ≡ length (cut (s .args .flow .now) (s .args .d * s .args .n) (s .args .d * s .args .n + s .args .n)) =
-        (λ xs q. same-part xs (s .args .flow .now) (s .args .d * s .args .n) (s .args .n) (part-end (s .args .d) (s .args .devices) (s .args .n) _ (p .1) q) (q ∙ sym (p .0 .flow-long))) in
+    → length (cut xs (s .args .d * s .args .n) (s .args .d * s .args .n + s .args .n))
+    ≡ length (cut (s .args .flow .now) (s .args .d * s .args .n) (s .args .d * s .args .n + s .args .n)) =
+    (λ xs q. same-part xs (s .args .flow .now) (s .args .d * s .args .n) (s .args .n) (part-end (s .args .d) (s .args .devices) (s .args .n) _ (p .1) q) (q ∙ sym (p .0 .flow-long))) in
     (p .0 .right (s .args .d) (p .1), part _ (p .2), part _ (p .3), part _ (p .4))
 
 -- src/lib.rt:51:1
@@ -253,11 +261,12 @@ returns c = let s = c .before .before .before .before .before .before .before .b
     let l = lent s in
     let n = row-long l (s .args .devices) (s .pre .0) (s .args .d) (s .pre .1) in
     let a = s .args .d * s .args .n in
-    record
-      { outcome-row = ap (put (s .args .outcome .now) a (a + s .args .n)) (c .before .before .before .before .before .before .fill-row .ensures .outcome-row ∙ ap (λ (m : ℕ). build m (outcomeAt (recordsOf l (s .args .d)))) n);
-        flow-row = ap (put (s .args .flow-used .now) a (a + s .args .n)) (c .before .before .before .before .before .before .fill-row .ensures .flow-row ∙ ap (λ (m : ℕ). build m (flowUsedAt (recordsOf l (s .args .d)))) n);
-        content-row = ap (put (s .args .content-used .now) a (a + s .args .n)) (c .before .before .before .before .before .before .fill-row .ensures .content-row ∙ ap (λ (m : ℕ). build m (contentUsedAt (recordsOf l (s .args .d)))) n);
-        account = c .before .before .before .before .before .before .fill-row .ensures .account }
+    record {
+      outcome-row = ap (put (s .args .outcome .now) a (a + s .args .n)) (c .before .before .before .before .before .before .fill-row .ensures .outcome-row ∙ ap (λ (m : ℕ). build m (outcomeAt (recordsOf l (s .args .d)))) n);
+      flow-row = ap (put (s .args .flow-used .now) a (a + s .args .n)) (c .before .before .before .before .before .before .fill-row .ensures .flow-row ∙ ap (λ (m : ℕ). build m (flowUsedAt (recordsOf l (s .args .d)))) n);
+      content-row = ap (put (s .args .content-used .now) a (a + s .args .n)) (c .before .before .before .before .before .before .fill-row .ensures .content-row ∙ ap (λ (m : ℕ). build m (contentUsedAt (recordsOf l (s .args .d)))) n);
+      account = c .before .before .before .before .before .before .fill-row .ensures .account;
+    }
 
 pub one-spec : {M : Type 1} → statement M
 one-spec =
