@@ -15,8 +15,9 @@ use Rattle.checks.specs.declared.Verdict.the-variants.{Clean, Refused as Offend
 use Rattle.figures.specs.declared.Figures.{Figures}
 use Rattle.quantify.specs.declared.Answer.{Answer}
 use Rattle.quantify.specs.declared.Answer.the-variants.{Accepted, Refused}
-use Rattle.quantify.specs.Devices.{Lent, lentIn, Rows, rowsOf}
-use Rattle.quantify.specs.Sheet.{figuresOf, kindIn, litresIn}
+use Rattle.devices.specs.Devices.{Lent, Rows, rowsOf}
+use Rattle.devices.specs.Totals.{kindIn, litresIn}
+use Rattle.quantify.specs.Sheet.{figuresOf, lentIn}
 
 -- Demand 1: accepted exactly if no check is offended, else refused with the first offended check and its first offender
 unfoldable pub answerBy : Verdict → Call → Answer

@@ -1,60 +1,66 @@
 -- The sheet's figures: "counted, replaced (outcomes 1 and 2, part of counted) and excluded are device-intervals; intervals and
 -- devices are N and D; the litre and mg lines are sums over devices, fuel once".
 -- Assumes nothing.
-use Prim.Native.Nat.{ℕ, _+_, _*_, _≤_}
+use Prim.Native.Nat.{ℕ, _+_, _≤_, _<_}
 use mathlib.Core.Path.{_≡_}
 use mathlib.Core.List.{List}
 use lib.ListN.{length, getD}
-use Rattle.rows.specs.Rows.{sumTo, countOf}
+use lib.IntN.{ℤ}
 use Rattle.checks.specs.Call.{Call}
-use Rattle.device.specs.Device.{Records, outcomeAt, methaneOf}
-use Rattle.balance.specs.Balance.{destroyedOf, uncombustedOf, fuelMg, overDevices, baselineAll, carbonDioxideAll, uncombustedAll, reductionAll, tonnesOf, creditsOf}
+use Rattle.balance.specs.Balance.{fuelMg, reductionOf, tonnesOf, creditsOf}
 use Rattle.figures.specs.declared.Figures.{Figures}
-use Rattle.quantify.specs.Devices.{Lent, lentIn, recordsOf}
+use Rattle.devices.specs.Devices.{Lent}
+use Rattle.devices.specs.Totals.{totalsOf}
+use Rattle.devices.specs.declared.Totals.{Totals}
 
--- how many intervals of device d have outcome j: "each count is the number of entries with that outcome"
-unfoldable pub countIn : Lent → ℕ → ℕ → ℕ
-countIn l d j = countOf (l .intervals) (outcomeAt (recordsOf l d)) j
+-- the part of a call that the devices' rows are worked out from
+abbrev pub lentIn : Call → Lent
+lentIn c =
+    record {
+      intervals = c .intervals;
+      kinds = c .kinds;
+      counts = c .counts;
+      places = c .places;
+      drifts = c .drifts;
+      flow = c .flow;
+      content = c .content;
+      temp = c .temp;
+      press = c .press;
+      status = c .status;
+    }
 
--- outcomes 0, 1 and 2; of these 1 and 2; and 3 to 9
-unfoldable pub countedIn : Lent → ℕ → ℕ
-countedIn l d = countIn l d 0 + countIn l d 1 + countIn l d 2
-
-unfoldable pub replacedIn : Lent → ℕ → ℕ
-replacedIn l d = countIn l d 1 + countIn l d 2
-
-unfoldable pub excludedIn : Lent → ℕ → ℕ
-excludedIn l d = sumTo 7 (λ j. countIn l d (3 + j))
-
--- a device's kind and its methane litres, "Q"
-abbrev pub kindIn : Lent → ℕ → ℕ
-kindIn l d = getD (l .kinds) d 0
-
-unfoldable pub litresIn : Lent → ℕ → ℕ
-litresIn l d = methaneOf (recordsOf l d)
-
+-- "fuel once"
 unfoldable pub fuelIn : Call → ℕ
 fuelIn c = fuelMg (length (c .quantity)) (λ k. getD (c .quantity) k 0) (λ k. getD (c .factor) k 0)
 
--- the sheet's lines, in order
-unfoldable pub figuresOf : Call → Figures
-figuresOf c =
-    let l : Lent = lentIn c in
-    let d : ℕ = c .devices in
+-- the sheet's lines, in order, from the sums over devices and the fuel
+unfoldable pub figuresFrom : ℕ → ℕ → Totals → ℕ → Figures
+figuresFrom intervals devices t fuel =
+    let reduction : ℤ = reductionOf (t .«baseline_mg») (t .«co2_mg» + t .«uncombusted_mg» + fuel) in
     record {
-      intervals = c .intervals;
-      devices = d;
-      counted = sumTo d (countedIn l);
-      replaced = sumTo d (replacedIn l);
-      excluded = sumTo d (excludedIn l);
-      «methane_l» = sumTo d (litresIn l);
-      «destroyed_l» = overDevices destroyedOf d (kindIn l) (litresIn l);
-      «uncombusted_l» = overDevices uncombustedOf d (kindIn l) (litresIn l);
-      «baseline_mg» = baselineAll d (kindIn l) (litresIn l);
-      «co2_mg» = carbonDioxideAll d (kindIn l) (litresIn l);
-      «uncombusted_mg» = uncombustedAll d (kindIn l) (litresIn l);
-      «fuel_mg» = fuelIn c;
-      «reduction_mg» = reductionAll d (kindIn l) (litresIn l) (fuelIn c);
-      tonnes = tonnesOf (reductionAll d (kindIn l) (litresIn l) (fuelIn c));
-      credits = creditsOf (tonnesOf (reductionAll d (kindIn l) (litresIn l) (fuelIn c)));
+      intervals = intervals;
+      devices = devices;
+      counted = t .counted;
+      replaced = t .replaced;
+      excluded = t .excluded;
+      «methane_l» = t .methane;
+      «destroyed_l» = t .destroyed;
+      «uncombusted_l» = t .uncombusted;
+      «baseline_mg» = t .«baseline_mg»;
+      «co2_mg» = t .«co2_mg»;
+      «uncombusted_mg» = t .«uncombusted_mg»;
+      «fuel_mg» = fuel;
+      «reduction_mg» = reduction;
+      tonnes = tonnesOf reduction;
+      credits = creditsOf (tonnesOf reduction);
     }
+
+unfoldable pub figuresOf : Call → Figures
+figuresOf c = figuresFrom (c .intervals) (c .devices) (totalsOf (lentIn c) (c .devices)) (fuelIn c)
+
+-- what the fuel lines are within
+pub record Fuels (quantity factor : List ℕ) : Type 0 where
+  pub same-length : length factor ≡ length quantity
+  pub few : length quantity ≤ 64
+  pub quantity-most : (j : ℕ) → j < length quantity → getD quantity j 0 ≤ 1000000000
+  pub factor-most : (j : ℕ) → j < length quantity → getD factor j 0 ≤ 4000000
