@@ -1,0 +1,115 @@
+use Rattle.quantify.proofs.Settling.{settled-made}
+use mathlib.Core.Path.{_≡_, refl, sym, ap, _∙_, subst}
+use lib.ListN.{length}
+use Rattle.checks.specs.Call.{Call}
+use Rattle.checks.specs.Steps.{judged}
+use Rattle.checks.specs.declared.Verdict.the-variants.{Clean}
+use Rattle.checks.proofs.Laws.{accepted}
+use Rattle.devices.specs.Devices.{Rows}
+use Rattle.figures.specs.declared.Figures.{Figures}
+use Rattle.quantify.specs.declared.Answer.the-variants.{Accepted}
+use Rattle.quantify.specs.Sheet.{fuelIn}
+use Rattle.quantify.specs.Promise.{Settled}
+use Rattle.quantify.proofs.Sound.{sound}
+use Rattle.quantify.proofs.Settling.{settled-refused, settled-accepted, moderate-call, sheet-is}
+use borrow.Author.Needs.{needs}
+use Rattle.quantify.proofs.quantify.Statement.{statement}
+use Rattle.quantify.proofs.quantify.Tie as tie
+use Rattle.quantify.proofs.quantify.Reads as reads
+use Rattle.quantify.proofs.quantify.Lts as lts
+use Rattle.checks.proofs.judge.Reads as judge-reads
+use Rattle.devices.proofs.fill_rows.Reads as fill-rows-reads
+use Rattle.quantify.proofs.fuel.Reads as fuel-reads
+use Rattle.quantify.proofs.sheet.Reads as sheet-reads
+
+call : tie.Start → Call
+call s =
+    record {
+      intervals = s .args .intervals;
+      devices = s .args .devices;
+      mine = s .args .mine;
+      kinds = s .args .kinds .now;
+      counts = s .args .counts .now;
+      places = s .args .places .now;
+      drifts = s .args .drifts .now;
+      flow = s .args .flow .now;
+      content = s .args .content .now;
+      temp = s .args .temp .now;
+      press = s .args .press .now;
+      status = s .args .status .now;
+      quantity = s .args .quantity .now;
+      factor = s .args .factor .now;
+      outcome-length = length (s .args .outcome .now);
+      flow-row-length = length (s .args .flow-used .now);
+      content-row-length = length (s .args .content-used .now);
+    }
+
+rows : tie.Start → Rows
+rows s = record { outcome = s .args .outcome .now; flow = s .args .flow-used .now; content = s .args .content-used .now }
+
+-- src/lib.rt:109:9
+judge-requires : tie.Need-judge-requires
+judge-requires c κs = search needs
+
+-- src/lib.rt:128:29
+enum-known-verdict : tie.Need-enum-known-verdict
+enum-known-verdict c = search needs
+
+-- src/lib.rt:129:9
+returns : tie.Need-returns
+unfolding call rows
+returns c = settled-refused (call (c .before .before .before .before .before .before .before .before .before .before .before .before .before .before .before .before)) (rows (c .before .before .before .before .before .before .before .before .before .before .before .before .before .before .before .before)) _ (sym (c .before .before .before .judge .ensures) ∙ c .before .verdict .given .1)
+
+enum-told : tie.Need-enum-told
+enum-told c = search needs
+
+-- src/lib.rt:131:9
+fill-rows-requires : tie.Need-fill-rows-requires
+unfolding call rows
+fill-rows-requires c κs = let x = (accepted (call (c .before .before .before .before .before .before .before .before .before .before .before .before .before .before .before .before .before .before)) (sym (c .before .before .before .before .before .judge .ensures) ∙ c .before .before .before .enum-told .given .1)) in (sound (call (c .before .before .before .before .before .before .before .before .before .before .before .before .before .before .before .before .before .before)) x, x .outcome-long, x .flow-row-long, x .content-row-long)
+
+-- src/lib.rt:147:9
+fuel-requires : tie.Need-fuel-requires
+unfolding call rows
+fuel-requires c κs = let x = (accepted (call (c .before .before .before .before .before .before .before .before .before .before .before .before .before .before .before .before .before .before .before .before .before .before .before .before .before)) (sym (c .before .before .before .before .before .before .before .before .before .before .before .before .judge .ensures) ∙ c .before .before .before .before .before .before .before .before .before .before .enum-told .given .1)) in record { same-length = x .shape .factor-long; few = x .fuels-most; quantity-most = x .quantity-most; factor-most = x .factor-most }
+
+-- src/lib.rt:148:22
+sheet-requires : tie.Need-sheet-requires
+unfolding call rows
+sheet-requires c κs = moderate-call (call (c .before .before .before .before .before .before .before .before .before .before .before .before .before .before .before .before .before .before .before .before .before .before .before .before .before .before)) (accepted (call (c .before .before .before .before .before .before .before .before .before .before .before .before .before .before .before .before .before .before .before .before .before .before .before .before .before .before)) (sym (c .before .before .before .before .before .before .before .before .before .before .before .before .before .judge .ensures) ∙ c .before .before .before .before .before .before .before .before .before .before .before .enum-told .given .1)) _ _ (c .before .before .before .before .before .before .before .fill-rows .ensures .totals) (c .fuel .ensures .1)
+
+-- src/lib.rt:63:1
+same-length : tie.Need-same-length
+same-length c = search needs
+
+-- src/lib.rt:63:1
+same-length-2 : tie.Need-same-length-2
+same-length-2 c = search needs
+
+-- src/lib.rt:63:1
+same-length-3 : tie.Need-same-length-3
+same-length-3 c = search needs
+
+-- src/lib.rt:63:1
+returns-2 : tie.Need-returns-2
+unfolding call rows fuelIn
+returns-2 c = let s = c .before .before .before .before .before .before .before .before .before .before .before .before .before .before .before .before .before .before .before .before .before .before .before .before .before .before .before in
+    let w = c .before .before .before .before .before .before .before .before .fill-rows .ensures in
+    settled-made (call s) (rows s) _ _ _ (c .before .before .before .before .before .before .before .before .fill-rows .result) (c .sheet .result) (sym (c .before .before .before .before .before .before .before .before .before .before .before .before .before .before .judge .ensures) ∙ c .before .before .before .before .before .before .before .before .before .before .before .before .enum-told .given .1) w
+    (sheet-is (call s) (c .before .before .before .before .before .before .before .before .fill-rows .result) (c .before .fuel .result) (c .sheet .result) (c .sheet .ensures) (w .totals) (c .before .fuel .ensures .0))
+
+pub quantify-spec : {M : Type 1} → statement M
+quantify-spec =
+    tie.close
+    (tie.spec
+    judge-requires
+    enum-known-verdict
+    returns
+    enum-told
+    fill-rows-requires
+    fuel-requires
+    sheet-requires
+    same-length
+    same-length-2
+    same-length-3
+    returns-2)
