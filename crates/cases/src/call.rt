@@ -49,31 +49,31 @@ fn head_of(t: &[u8], at: usize) -> Head {
     }
 }
 
-fn row_u8(t: &[u8], at: usize, scratch: &mut [u64], to: &mut [u8]) -> Row {
+fn row_u8(t: &[u8], at: usize, scratch: &mut [u64; 2977], to: &mut [u8; 2977]) -> Row {
     let r = rows::fill(t, at, scratch);
     rows::to_u8(scratch, r.len, to);
     r
 }
 
-fn row_u16(t: &[u8], at: usize, scratch: &mut [u64], to: &mut [u16]) -> Row {
+fn row_u16(t: &[u8], at: usize, scratch: &mut [u64; 2977], to: &mut [u16; 2977]) -> Row {
     let r = rows::fill(t, at, scratch);
     rows::to_u16(scratch, r.len, to);
     r
 }
 
-fn row_u32(t: &[u8], at: usize, scratch: &mut [u64], to: &mut [u32]) -> Row {
+fn row_u32(t: &[u8], at: usize, scratch: &mut [u64; 2977], to: &mut [u32; 2977]) -> Row {
     let r = rows::fill(t, at, scratch);
     rows::to_u32(scratch, r.len, to);
     r
 }
 
-fn row_i16(t: &[u8], at: usize, scratch: &mut [u64], to: &mut [i16]) -> Row {
+fn row_i16(t: &[u8], at: usize, scratch: &mut [u64; 2977], to: &mut [i16; 2977]) -> Row {
     let r = rows::fill(t, at, scratch);
     rows::to_i16(scratch, r.len, to);
     r
 }
 
-fn row_i32(t: &[u8], at: usize, scratch: &mut [u64], to: &mut [i32]) -> Row {
+fn row_i32(t: &[u8], at: usize, scratch: &mut [u64; 2977], to: &mut [i32; 2977]) -> Row {
     let r = rows::fill(t, at, scratch);
     rows::to_i32(scratch, r.len, to);
     r
@@ -82,18 +82,18 @@ fn row_i32(t: &[u8], at: usize, scratch: &mut [u64], to: &mut [i32]) -> Row {
 fn read(
     t: &[u8],
     at: usize,
-    scratch: &mut [u64],
-    kinds: &mut [u32],
-    counts: &mut [u32],
-    places: &mut [u32],
-    drifts: &mut [i32],
-    flow: &mut [u16],
-    content: &mut [u16],
-    temp: &mut [i16],
-    press: &mut [u32],
-    status: &mut [u8],
-    quantity: &mut [u32],
-    factor: &mut [u32],
+    scratch: &mut [u64; 2977],
+    kinds: &mut [u32; 2977],
+    counts: &mut [u32; 2977],
+    places: &mut [u32; 2977],
+    drifts: &mut [i32; 2977],
+    flow: &mut [u16; 2977],
+    content: &mut [u16; 2977],
+    temp: &mut [i16; 2977],
+    press: &mut [u32; 2977],
+    status: &mut [u8; 2977],
+    quantity: &mut [u32; 2977],
+    factor: &mut [u32; 2977],
 ) -> Sizes {
     let a1 = row_u32(t, at, scratch, kinds);
     let a2 = row_u32(t, a1.next, scratch, counts);
@@ -179,25 +179,65 @@ fn shown(
     }
 }
 
+// The public call on the parts that the case lends.
+fn asked(
+    h: Head,
+    s: Sizes,
+    kinds: &[u32],
+    counts: &[u32],
+    places: &[u32],
+    drifts: &[i32],
+    flow: &[u16],
+    content: &[u16],
+    temp: &[i16],
+    press: &[u32],
+    status: &[u8],
+    quantity: &[u32],
+    factor: &[u32],
+    outcome: &mut [u8],
+    flow_used: &mut [u16],
+    content_used: &mut [u16],
+) -> Answer {
+    quantify::quantify(
+        h.intervals,
+        h.devices,
+        h.mine,
+        rows::first_u32(kinds, s.kinds),
+        rows::first_u32(counts, s.counts),
+        rows::first_u32(places, s.places),
+        rows::first_i32(drifts, s.drifts),
+        rows::first_u16(flow, s.flow),
+        rows::first_u16(content, s.content),
+        rows::first_i16(temp, s.temp),
+        rows::first_u32(press, s.press),
+        rows::first_u8(status, s.status),
+        rows::first_u32(quantity, s.quantity),
+        rows::first_u32(factor, s.factor),
+        rows::lent_u8(outcome, s.outcome),
+        rows::lent_u16(flow_used, s.flow_used),
+        rows::lent_u16(content_used, s.content_used),
+    )
+}
+
 // Reads, calls and shows the case at `at`, and gives the place where the next one begins.
 fn one_case(
     t: &[u8],
     at: usize,
-    scratch: &mut [u64],
-    kinds: &mut [u32],
-    counts: &mut [u32],
-    places: &mut [u32],
-    drifts: &mut [i32],
-    flow: &mut [u16],
-    content: &mut [u16],
-    temp: &mut [i16],
-    press: &mut [u32],
-    status: &mut [u8],
-    quantity: &mut [u32],
-    factor: &mut [u32],
-    outcome: &mut [u8],
-    flow_used: &mut [u16],
-    content_used: &mut [u16],
+    scratch: &mut [u64; 2977],
+    kinds: &mut [u32; 2977],
+    counts: &mut [u32; 2977],
+    places: &mut [u32; 2977],
+    drifts: &mut [i32; 2977],
+    flow: &mut [u16; 2977],
+    content: &mut [u16; 2977],
+    temp: &mut [i16; 2977],
+    press: &mut [u32; 2977],
+    status: &mut [u8; 2977],
+    quantity: &mut [u32; 2977],
+    factor: &mut [u32; 2977],
+    outcome: &mut [u8; 2977],
+    flow_used: &mut [u16; 2977],
+    content_used: &mut [u16; 2977],
 ) -> usize {
     let h = head_of(t, at);
     let s = read(
@@ -220,24 +260,23 @@ fn one_case(
     rows::paint_u16(flow_used);
     rows::paint_u16(content_used);
     show::name(t, h.name, h.name_end);
-    let a = quantify::quantify(
-        h.intervals,
-        h.devices,
-        h.mine,
-        rows::first_u32(kinds, s.kinds),
-        rows::first_u32(counts, s.counts),
-        rows::first_u32(places, s.places),
-        rows::first_i32(drifts, s.drifts),
-        rows::first_u16(flow, s.flow),
-        rows::first_u16(content, s.content),
-        rows::first_i16(temp, s.temp),
-        rows::first_u32(press, s.press),
-        rows::first_u8(status, s.status),
-        rows::first_u32(quantity, s.quantity),
-        rows::first_u32(factor, s.factor),
-        rows::lent_u8(outcome, s.outcome),
-        rows::lent_u16(flow_used, s.flow_used),
-        rows::lent_u16(content_used, s.content_used),
+    let a = asked(
+        h,
+        s,
+        kinds,
+        counts,
+        places,
+        drifts,
+        flow,
+        content,
+        temp,
+        press,
+        status,
+        quantity,
+        factor,
+        outcome,
+        flow_used,
+        content_used,
     );
     shown(a, t, s.exact, outcome, flow_used, content_used);
     tokens::after(t, tokens::end(t, s.exact))
@@ -246,21 +285,21 @@ fn one_case(
 // All cases, up to the word `end` or whatever else is no case.
 pub fn all_cases(
     t: &[u8],
-    scratch: &mut [u64],
-    kinds: &mut [u32],
-    counts: &mut [u32],
-    places: &mut [u32],
-    drifts: &mut [i32],
-    flow: &mut [u16],
-    content: &mut [u16],
-    temp: &mut [i16],
-    press: &mut [u32],
-    status: &mut [u8],
-    quantity: &mut [u32],
-    factor: &mut [u32],
-    outcome: &mut [u8],
-    flow_used: &mut [u16],
-    content_used: &mut [u16],
+    scratch: &mut [u64; 2977],
+    kinds: &mut [u32; 2977],
+    counts: &mut [u32; 2977],
+    places: &mut [u32; 2977],
+    drifts: &mut [i32; 2977],
+    flow: &mut [u16; 2977],
+    content: &mut [u16; 2977],
+    temp: &mut [i16; 2977],
+    press: &mut [u32; 2977],
+    status: &mut [u8; 2977],
+    quantity: &mut [u32; 2977],
+    factor: &mut [u32; 2977],
+    outcome: &mut [u8; 2977],
+    flow_used: &mut [u16; 2977],
+    content_used: &mut [u16; 2977],
 ) {
     let mut at = 0;
     while tokens::stands(t, at, 99) {

@@ -64,8 +64,18 @@ fn place_of(r: Refusal) -> usize {
     }
 }
 
-fn bit(b: bool) -> u64 {
-    if b { 1 } else { 0 }
+fn all_kept(outcome: &[u8], flow_used: &[u16], content_used: &[u16]) -> u64 {
+    if !rows::kept_u8(outcome, 0) {
+        return 0;
+    }
+    if !rows::kept_u16(flow_used, 0) {
+        return 0;
+    }
+    if rows::kept_u16(content_used, 0) {
+        1
+    } else {
+        0
+    }
 }
 
 // A refusal, and whether every entry of the three result rows is what it was.
@@ -73,10 +83,7 @@ pub fn refusal(r: Refusal, outcome: &[u8], flow_used: &[u16], content_used: &[u1
     line(b"refusal=", number_of(r));
     line(b"device=", device_of(r) as u64);
     line(b"place=", place_of(r) as u64);
-    let kept = bit(rows::kept_u8(outcome, 0))
-        * bit(rows::kept_u16(flow_used, 0))
-        * bit(rows::kept_u16(content_used, 0));
-    line(b"kept=", kept);
+    line(b"kept=", all_kept(outcome, flow_used, content_used));
 }
 
 // One entry more in a checksum: entries exchanged give another one.
@@ -131,16 +138,20 @@ fn count(row: &[u8], code: u8) -> u64 {
     sum
 }
 
-// A device: how many of each outcome its row has, and its rows' checksums.
-pub fn device(d: u64, outcome: &[u8], flow_used: &[u16], content_used: &[u16]) {
-    text(b"device");
-    spaced(d);
-    text(b" counts");
+fn counts(outcome: &[u8]) {
     let mut code: u8 = 0;
     while code < 10 {
         spaced(count(outcome, code));
         code += 1;
     }
+}
+
+// A device: how many of each outcome its row has, and its rows' checksums.
+pub fn device(d: u64, outcome: &[u8], flow_used: &[u16], content_used: &[u16]) {
+    text(b"device");
+    spaced(d);
+    text(b" counts");
+    counts(outcome);
     text(b" sums");
     spaced(checksum_u8(outcome));
     spaced(checksum_u16(flow_used));
@@ -211,6 +222,15 @@ fn short_by(reported: u64, counted: u64, devices: u64) -> u64 {
     reported + 1000000000 + counted % 1000000 * 25000 + devices % 1000 * 13000
 }
 
+// 1 is what demand 3 asks: not above, and short by less than it allows.
+fn verdict(above: bool, short: bool) -> u64 {
+    if above {
+        if short { 3 } else { 2 }
+    } else {
+        if short { 1 } else { 0 }
+    }
+}
+
 // The sheet, and whether its tonnes are as near to the exact reduction in the text at `at` as demand 3 asks.
 pub fn sheet(f: Figures, t: &[u8], at: usize) -> u64 {
     let mut buf = [0u8; 465];
@@ -222,13 +242,10 @@ pub fn sheet(f: Figures, t: &[u8], at: usize) -> u64 {
     text(s);
     let exact = exact_mg(t, at);
     let reported = reported_mg(s);
-    let above = if exact < reported { 2 } else { 0 };
-    let short = if exact < short_by(reported, f.counted, f.devices) {
-        1
-    } else {
-        0
-    };
-    above + short
+    verdict(
+        exact < reported,
+        exact < short_by(reported, f.counted, f.devices),
+    )
 }
 
 // The exact milligrams as the input has them, with the two halves of demand 3.
