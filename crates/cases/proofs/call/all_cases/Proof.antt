@@ -11,11 +11,11 @@ use Rattle.cases.proofs.tokens.stands.Reads as stands-reads
 
 abbrev Inv-loop : tie.InvT-loop
 Inv-loop t scratch₀ kinds₀ counts₀ places₀ drifts₀ flow₀ content₀ temp₀ press₀ status₀ quantity₀ factor₀ outcome₀ flow-used₀ content-used₀ at₀ t19 scratch kinds counts places drifts flow content temp press status quantity factor outcome flow-used content-used at =
-    ?
+    0 ≤ at
 
 abbrev μ-loop : tie.MeasureT-loop
 μ-loop t scratch₀ kinds₀ counts₀ places₀ drifts₀ flow₀ content₀ temp₀ press₀ status₀ quantity₀ factor₀ outcome₀ flow-used₀ content-used₀ at₀ t19 scratch kinds counts places drifts flow content temp press status quantity factor outcome flow-used content-used at =
-    ?
+    length t - at
 
 -- src/call.rt:305:5
 loop-holds : tie.Need-loop-holds Inv-loop μ-loop
