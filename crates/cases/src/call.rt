@@ -1,6 +1,6 @@
 // One case after the other: read, called, shown.
-use crate::rows;
-use crate::rows::Row;
+use crate::series;
+use crate::series::Row;
 use crate::show;
 use crate::tokens;
 use quantify::Answer;
@@ -50,32 +50,32 @@ fn head_of(t: &[u8], at: usize) -> Head {
 }
 
 fn row_u8(t: &[u8], at: usize, scratch: &mut [u64; 2977], to: &mut [u8; 2977]) -> Row {
-    let r = rows::fill(t, at, scratch);
-    rows::to_u8(scratch, r.len, to);
+    let r = series::fill(t, at, scratch);
+    series::to_u8(scratch, r.len, to);
     r
 }
 
 fn row_u16(t: &[u8], at: usize, scratch: &mut [u64; 2977], to: &mut [u16; 2977]) -> Row {
-    let r = rows::fill(t, at, scratch);
-    rows::to_u16(scratch, r.len, to);
+    let r = series::fill(t, at, scratch);
+    series::to_u16(scratch, r.len, to);
     r
 }
 
 fn row_u32(t: &[u8], at: usize, scratch: &mut [u64; 2977], to: &mut [u32; 2977]) -> Row {
-    let r = rows::fill(t, at, scratch);
-    rows::to_u32(scratch, r.len, to);
+    let r = series::fill(t, at, scratch);
+    series::to_u32(scratch, r.len, to);
     r
 }
 
 fn row_i16(t: &[u8], at: usize, scratch: &mut [u64; 2977], to: &mut [i16; 2977]) -> Row {
-    let r = rows::fill(t, at, scratch);
-    rows::to_i16(scratch, r.len, to);
+    let r = series::fill(t, at, scratch);
+    series::to_i16(scratch, r.len, to);
     r
 }
 
 fn row_i32(t: &[u8], at: usize, scratch: &mut [u64; 2977], to: &mut [i32; 2977]) -> Row {
-    let r = rows::fill(t, at, scratch);
-    rows::to_i32(scratch, r.len, to);
+    let r = series::fill(t, at, scratch);
+    series::to_i32(scratch, r.len, to);
     r
 }
 
@@ -137,15 +137,21 @@ fn plus(a: usize, n: usize) -> usize {
     a
 }
 
-fn devices(intervals: usize, most: u64, outcome: &[u8], flow_used: &[u16], content_used: &[u16]) {
+fn each_device(
+    intervals: usize,
+    most: u64,
+    outcome: &[u8],
+    flow_used: &[u16],
+    content_used: &[u16],
+) {
     let mut at = 0;
     let mut d: u64 = 0;
     while d < most {
         show::device(
             d,
-            rows::part_u8(outcome, at, intervals),
-            rows::part_u16(flow_used, at, intervals),
-            rows::part_u16(content_used, at, intervals),
+            series::part_u8(outcome, at, intervals),
+            series::part_u16(flow_used, at, intervals),
+            series::part_u16(content_used, at, intervals),
         );
         at = plus(at, intervals);
         d += 1;
@@ -164,7 +170,7 @@ fn shown(
     match a {
         Answer::Accepted(f) => {
             let verdict = show::sheet(f, t, exact);
-            devices(
+            each_device(
                 f.intervals as usize,
                 f.devices,
                 outcome,
@@ -202,20 +208,20 @@ fn asked(
         h.intervals,
         h.devices,
         h.mine,
-        rows::first_u32(kinds, s.kinds),
-        rows::first_u32(counts, s.counts),
-        rows::first_u32(places, s.places),
-        rows::first_i32(drifts, s.drifts),
-        rows::first_u16(flow, s.flow),
-        rows::first_u16(content, s.content),
-        rows::first_i16(temp, s.temp),
-        rows::first_u32(press, s.press),
-        rows::first_u8(status, s.status),
-        rows::first_u32(quantity, s.quantity),
-        rows::first_u32(factor, s.factor),
-        rows::lent_u8(outcome, s.outcome),
-        rows::lent_u16(flow_used, s.flow_used),
-        rows::lent_u16(content_used, s.content_used),
+        series::first_u32(kinds, s.kinds),
+        series::first_u32(counts, s.counts),
+        series::first_u32(places, s.places),
+        series::first_i32(drifts, s.drifts),
+        series::first_u16(flow, s.flow),
+        series::first_u16(content, s.content),
+        series::first_i16(temp, s.temp),
+        series::first_u32(press, s.press),
+        series::first_u8(status, s.status),
+        series::first_u32(quantity, s.quantity),
+        series::first_u32(factor, s.factor),
+        series::lent_u8(outcome, s.outcome),
+        series::lent_u16(flow_used, s.flow_used),
+        series::lent_u16(content_used, s.content_used),
     )
 }
 
@@ -256,9 +262,9 @@ fn one_case(
         quantity,
         factor,
     );
-    rows::paint_u8(outcome);
-    rows::paint_u16(flow_used);
-    rows::paint_u16(content_used);
+    series::paint_u8(outcome);
+    series::paint_u16(flow_used);
+    series::paint_u16(content_used);
     show::name(t, h.name, h.name_end);
     let a = asked(
         h,

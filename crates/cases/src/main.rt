@@ -1,7 +1,7 @@
 // Runs the public call on the cases of standard input and prints what each gives. tests/make_cases writes both sides:
 // its head has the input's format, and tests/oracle.py, which knows document 01 only, is where the expectations come from.
 mod call;
-mod rows;
+mod series;
 mod show;
 mod tokens;
 
@@ -26,7 +26,7 @@ fn run(text: &mut [u8; 1000000]) {
     let mut flow_used = [0u16; 2977];
     let mut content_used = [0u16; 2977];
     call::all_cases(
-        rows::first_u8(text, n),
+        series::first_u8(text, n),
         &mut scratch,
         &mut kinds,
         &mut counts,

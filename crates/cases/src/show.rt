@@ -1,5 +1,5 @@
 // What is printed of a case.
-use crate::rows;
+use crate::series;
 use crate::tokens;
 use checks::Refusal;
 use figures::Figures;
@@ -65,13 +65,13 @@ fn place_of(r: Refusal) -> usize {
 }
 
 fn all_kept(outcome: &[u8], flow_used: &[u16], content_used: &[u16]) -> u64 {
-    if !rows::kept_u8(outcome, 0) {
+    if !series::kept_u8(outcome, 0) {
         return 0;
     }
-    if !rows::kept_u16(flow_used, 0) {
+    if !series::kept_u16(flow_used, 0) {
         return 0;
     }
-    if rows::kept_u16(content_used, 0) {
+    if series::kept_u16(content_used, 0) {
         1
     } else {
         0
@@ -238,7 +238,7 @@ pub fn sheet(f: Figures, t: &[u8], at: usize) -> u64 {
     let WriteAnswer::Written(n) = a else {
         return 9;
     };
-    let s = rows::first_u8(&buf, n);
+    let s = series::first_u8(&buf, n);
     text(s);
     let exact = exact_mg(t, at);
     let reported = reported_mg(s);
@@ -253,7 +253,7 @@ pub fn exact(t: &[u8], at: usize, verdict: u64) {
     text(b"exact_mg=");
     let e = tokens::end(t, at);
     if at <= e {
-        text(rows::part_u8(t, at, e - at));
+        text(series::part_u8(t, at, e - at));
     }
     text(b" above=");
     io::print_decimal(STDOUT_FILENO, verdict / 2);
@@ -263,7 +263,7 @@ pub fn exact(t: &[u8], at: usize, verdict: u64) {
 pub fn name(t: &[u8], from: usize, to: usize) {
     text(b"case ");
     if from <= to {
-        text(rows::part_u8(t, from, to - from));
+        text(series::part_u8(t, from, to - from));
     }
     text(b"\n");
 }
