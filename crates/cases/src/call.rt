@@ -1,5 +1,6 @@
 // One case after the other: read, called, shown.
 use crate::series;
+use crate::series::ENTRIES;
 use crate::series::Row;
 use crate::show;
 use crate::tokens;
@@ -49,31 +50,31 @@ fn head_of(t: &[u8], at: usize) -> Head {
     }
 }
 
-fn row_u8(t: &[u8], at: usize, scratch: &mut [u64; 2977], to: &mut [u8; 2977]) -> Row {
+fn row_u8(t: &[u8], at: usize, scratch: &mut [u64; ENTRIES], to: &mut [u8; ENTRIES]) -> Row {
     let r = series::fill(t, at, scratch);
     series::to_u8(scratch, r.len, to);
     r
 }
 
-fn row_u16(t: &[u8], at: usize, scratch: &mut [u64; 2977], to: &mut [u16; 2977]) -> Row {
+fn row_u16(t: &[u8], at: usize, scratch: &mut [u64; ENTRIES], to: &mut [u16; ENTRIES]) -> Row {
     let r = series::fill(t, at, scratch);
     series::to_u16(scratch, r.len, to);
     r
 }
 
-fn row_u32(t: &[u8], at: usize, scratch: &mut [u64; 2977], to: &mut [u32; 2977]) -> Row {
+fn row_u32(t: &[u8], at: usize, scratch: &mut [u64; ENTRIES], to: &mut [u32; ENTRIES]) -> Row {
     let r = series::fill(t, at, scratch);
     series::to_u32(scratch, r.len, to);
     r
 }
 
-fn row_i16(t: &[u8], at: usize, scratch: &mut [u64; 2977], to: &mut [i16; 2977]) -> Row {
+fn row_i16(t: &[u8], at: usize, scratch: &mut [u64; ENTRIES], to: &mut [i16; ENTRIES]) -> Row {
     let r = series::fill(t, at, scratch);
     series::to_i16(scratch, r.len, to);
     r
 }
 
-fn row_i32(t: &[u8], at: usize, scratch: &mut [u64; 2977], to: &mut [i32; 2977]) -> Row {
+fn row_i32(t: &[u8], at: usize, scratch: &mut [u64; ENTRIES], to: &mut [i32; ENTRIES]) -> Row {
     let r = series::fill(t, at, scratch);
     series::to_i32(scratch, r.len, to);
     r
@@ -82,18 +83,18 @@ fn row_i32(t: &[u8], at: usize, scratch: &mut [u64; 2977], to: &mut [i32; 2977])
 fn read(
     t: &[u8],
     at: usize,
-    scratch: &mut [u64; 2977],
-    kinds: &mut [u32; 2977],
-    counts: &mut [u32; 2977],
-    places: &mut [u32; 2977],
-    drifts: &mut [i32; 2977],
-    flow: &mut [u16; 2977],
-    content: &mut [u16; 2977],
-    temp: &mut [i16; 2977],
-    press: &mut [u32; 2977],
-    status: &mut [u8; 2977],
-    quantity: &mut [u32; 2977],
-    factor: &mut [u32; 2977],
+    scratch: &mut [u64; ENTRIES],
+    kinds: &mut [u32; ENTRIES],
+    counts: &mut [u32; ENTRIES],
+    places: &mut [u32; ENTRIES],
+    drifts: &mut [i32; ENTRIES],
+    flow: &mut [u16; ENTRIES],
+    content: &mut [u16; ENTRIES],
+    temp: &mut [i16; ENTRIES],
+    press: &mut [u32; ENTRIES],
+    status: &mut [u8; ENTRIES],
+    quantity: &mut [u32; ENTRIES],
+    factor: &mut [u32; ENTRIES],
 ) -> Sizes {
     let a1 = row_u32(t, at, scratch, kinds);
     let a2 = row_u32(t, a1.next, scratch, counts);
@@ -229,21 +230,21 @@ fn asked(
 fn one_case(
     t: &[u8],
     at: usize,
-    scratch: &mut [u64; 2977],
-    kinds: &mut [u32; 2977],
-    counts: &mut [u32; 2977],
-    places: &mut [u32; 2977],
-    drifts: &mut [i32; 2977],
-    flow: &mut [u16; 2977],
-    content: &mut [u16; 2977],
-    temp: &mut [i16; 2977],
-    press: &mut [u32; 2977],
-    status: &mut [u8; 2977],
-    quantity: &mut [u32; 2977],
-    factor: &mut [u32; 2977],
-    outcome: &mut [u8; 2977],
-    flow_used: &mut [u16; 2977],
-    content_used: &mut [u16; 2977],
+    scratch: &mut [u64; ENTRIES],
+    kinds: &mut [u32; ENTRIES],
+    counts: &mut [u32; ENTRIES],
+    places: &mut [u32; ENTRIES],
+    drifts: &mut [i32; ENTRIES],
+    flow: &mut [u16; ENTRIES],
+    content: &mut [u16; ENTRIES],
+    temp: &mut [i16; ENTRIES],
+    press: &mut [u32; ENTRIES],
+    status: &mut [u8; ENTRIES],
+    quantity: &mut [u32; ENTRIES],
+    factor: &mut [u32; ENTRIES],
+    outcome: &mut [u8; ENTRIES],
+    flow_used: &mut [u16; ENTRIES],
+    content_used: &mut [u16; ENTRIES],
 ) -> usize {
     let h = head_of(t, at);
     let s = read(
@@ -262,9 +263,9 @@ fn one_case(
         quantity,
         factor,
     );
-    series::paint_u8(outcome);
-    series::paint_u16(flow_used);
-    series::paint_u16(content_used);
+    series::paint_u8(outcome, s.outcome);
+    series::paint_u16(flow_used, s.flow_used);
+    series::paint_u16(content_used, s.content_used);
     show::name(t, h.name, h.name_end);
     let a = asked(
         h,
@@ -284,28 +285,35 @@ fn one_case(
         flow_used,
         content_used,
     );
-    shown(a, t, s.exact, outcome, flow_used, content_used);
+    shown(
+        a,
+        t,
+        s.exact,
+        series::first_u8(outcome, s.outcome),
+        series::first_u16(flow_used, s.flow_used),
+        series::first_u16(content_used, s.content_used),
+    );
     tokens::after(t, tokens::end(t, s.exact))
 }
 
 // All cases, up to the word `end` or whatever else is no case.
 pub fn all_cases(
     t: &[u8],
-    scratch: &mut [u64; 2977],
-    kinds: &mut [u32; 2977],
-    counts: &mut [u32; 2977],
-    places: &mut [u32; 2977],
-    drifts: &mut [i32; 2977],
-    flow: &mut [u16; 2977],
-    content: &mut [u16; 2977],
-    temp: &mut [i16; 2977],
-    press: &mut [u32; 2977],
-    status: &mut [u8; 2977],
-    quantity: &mut [u32; 2977],
-    factor: &mut [u32; 2977],
-    outcome: &mut [u8; 2977],
-    flow_used: &mut [u16; 2977],
-    content_used: &mut [u16; 2977],
+    scratch: &mut [u64; ENTRIES],
+    kinds: &mut [u32; ENTRIES],
+    counts: &mut [u32; ENTRIES],
+    places: &mut [u32; ENTRIES],
+    drifts: &mut [i32; ENTRIES],
+    flow: &mut [u16; ENTRIES],
+    content: &mut [u16; ENTRIES],
+    temp: &mut [i16; ENTRIES],
+    press: &mut [u32; ENTRIES],
+    status: &mut [u8; ENTRIES],
+    quantity: &mut [u32; ENTRIES],
+    factor: &mut [u32; ENTRIES],
+    outcome: &mut [u8; ENTRIES],
+    flow_used: &mut [u16; ENTRIES],
+    content_used: &mut [u16; ENTRIES],
 ) {
     let mut at = 0;
     while tokens::stands(t, at, 99) {

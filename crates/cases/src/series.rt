@@ -2,6 +2,9 @@
 ghost use Prim.Native.Nat.{_≤_, _<_};
 use crate::tokens;
 
+// How many entries each array of the program has: one more than a device of a year.
+pub const ENTRIES: usize = 35137;
+
 pub struct Row {
     pub len: usize,
     pub next: usize,
@@ -177,26 +180,35 @@ fn paint16(i: usize) -> u16 {
     (i % 5000 + 60000) as u16
 }
 
-pub fn paint_u8(row: &mut [u8]) {
+pub fn paint_u8(row: &mut [u8], n: usize) {
     let mut i = 0;
-    while i < row.len() {
+    while i < n {
+        if row.len() <= i {
+            return;
+        }
         row[i] = paint8(i);
         i += 1;
     }
 }
 
-pub fn paint_u16(row: &mut [u16]) {
+pub fn paint_u16(row: &mut [u16], n: usize) {
     let mut i = 0;
-    while i < row.len() {
+    while i < n {
+        if row.len() <= i {
+            return;
+        }
         row[i] = paint16(i);
         i += 1;
     }
 }
 
-// Does the row hold all that it held, from `from` on?
-pub fn kept_u8(row: &[u8], from: usize) -> bool {
-    let mut i = from;
-    while i < row.len() {
+// Do the first n entries hold what they held?
+pub fn kept_u8(row: &[u8], n: usize) -> bool {
+    let mut i = 0;
+    while i < n {
+        if row.len() <= i {
+            return true;
+        }
         if row[i] != paint8(i) {
             return false;
         }
@@ -205,9 +217,12 @@ pub fn kept_u8(row: &[u8], from: usize) -> bool {
     true
 }
 
-pub fn kept_u16(row: &[u16], from: usize) -> bool {
-    let mut i = from;
-    while i < row.len() {
+pub fn kept_u16(row: &[u16], n: usize) -> bool {
+    let mut i = 0;
+    while i < n {
+        if row.len() <= i {
+            return true;
+        }
         if row[i] != paint16(i) {
             return false;
         }

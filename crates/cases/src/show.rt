@@ -65,13 +65,13 @@ fn place_of(r: Refusal) -> usize {
 }
 
 fn all_kept(outcome: &[u8], flow_used: &[u16], content_used: &[u16]) -> u64 {
-    if !series::kept_u8(outcome, 0) {
+    if !series::kept_u8(outcome, outcome.len()) {
         return 0;
     }
-    if !series::kept_u16(flow_used, 0) {
+    if !series::kept_u16(flow_used, flow_used.len()) {
         return 0;
     }
-    if series::kept_u16(content_used, 0) {
+    if series::kept_u16(content_used, content_used.len()) {
         1
     } else {
         0

@@ -1,13 +1,9 @@
-use lib.ListN.{length}
+-- `cases::call::all_cases` is safe and ends. Assumes nothing.
 use Prim.Native.Nat.{_≤_, _-_}
 use borrow.Author.Needs.{needs}
+use lib.ListN.{length}
 use Rattle.cases.proofs.call.all_cases.Statement.{statement}
 use Rattle.cases.proofs.call.all_cases.Tie as tie
-use Rattle.cases.proofs.call.all_cases.Reads as reads
-use Rattle.cases.proofs.call.all_cases.Lts as lts
-use Rattle.cases.proofs.call.one_case.Reads as one-case-reads
-use Rattle.cases.proofs.show.text.Reads as text-reads
-use Rattle.cases.proofs.tokens.stands.Reads as stands-reads
 
 abbrev Inv-loop : tie.InvT-loop
 Inv-loop t scratch₀ kinds₀ counts₀ places₀ drifts₀ flow₀ content₀ temp₀ press₀ status₀ quantity₀ factor₀ outcome₀ flow-used₀ content-used₀ at₀ t19 scratch kinds counts places drifts flow content temp press status quantity factor outcome flow-used content-used at =
@@ -17,43 +13,33 @@ abbrev μ-loop : tie.MeasureT-loop
 μ-loop t scratch₀ kinds₀ counts₀ places₀ drifts₀ flow₀ content₀ temp₀ press₀ status₀ quantity₀ factor₀ outcome₀ flow-used₀ content-used₀ at₀ t19 scratch kinds counts places drifts flow content temp press status quantity factor outcome flow-used content-used at =
     length t - at
 
--- src/call.rt:305:5
 loop-holds : tie.Need-loop-holds Inv-loop μ-loop
 loop-holds c = search needs
 
--- src/call.rt:305:11
 stands-requires : tie.Need-stands-requires Inv-loop μ-loop
 stands-requires c κs = search needs
 
--- src/call.rt:306:13
 one-case-requires : tie.Need-one-case-requires Inv-loop μ-loop
 one-case-requires c κs = search needs
 
--- src/call.rt:326:13
 returns : tie.Need-returns Inv-loop μ-loop
 returns c = search needs
 
--- src/call.rt:329:13
 returns-2 : tie.Need-returns-2 Inv-loop μ-loop
 returns-2 c = search needs
 
--- src/call.rt:305:5
 loop-less : tie.Need-loop-less Inv-loop μ-loop
 loop-less c = search needs
 
--- src/call.rt:305:5
 loop-again : tie.Need-loop-again Inv-loop μ-loop
 loop-again c = search needs
 
--- src/call.rt:333:16
 slice-aggregate-text : tie.Need-slice-aggregate-text Inv-loop μ-loop
 slice-aggregate-text c = search needs
 
--- src/call.rt:333:5
 text-requires : tie.Need-text-requires Inv-loop μ-loop
 text-requires c κs = search needs
 
--- src/call.rt:286:1
 returns-3 : tie.Need-returns-3 Inv-loop μ-loop
 returns-3 c = search needs
 

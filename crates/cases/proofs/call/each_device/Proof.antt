@@ -1,13 +1,8 @@
+-- `cases::call::each_device` is safe and ends. Assumes nothing.
 use Prim.Native.Nat.{_≤_, _-_}
 use borrow.Author.Needs.{needs}
 use Rattle.cases.proofs.call.each_device.Statement.{statement}
 use Rattle.cases.proofs.call.each_device.Tie as tie
-use Rattle.cases.proofs.call.each_device.Reads as reads
-use Rattle.cases.proofs.call.each_device.Lts as lts
-use Rattle.cases.proofs.call.plus.Reads as plus-reads
-use Rattle.cases.proofs.series.part_u16.Reads as part-u16-reads
-use Rattle.cases.proofs.series.part_u8.Reads as part-u8-reads
-use Rattle.cases.proofs.show.device.Reads as device-reads
 
 abbrev Inv-loop : tie.InvT-loop
 Inv-loop intervals most outcome flow-used content-used at₀ d₀ at d = 0 ≤ d
@@ -15,43 +10,33 @@ Inv-loop intervals most outcome flow-used content-used at₀ d₀ at d = 0 ≤ d
 abbrev μ-loop : tie.MeasureT-loop
 μ-loop intervals most outcome flow-used content-used at₀ d₀ at d = most - d
 
--- src/call.rt:143:5
 loop-holds : tie.Need-loop-holds Inv-loop μ-loop
 loop-holds c = search needs
 
--- src/call.rt:146:13
 part-u8-requires : tie.Need-part-u8-requires Inv-loop μ-loop
 part-u8-requires c κs = search needs
 
--- src/call.rt:147:13
 part-u16-requires : tie.Need-part-u16-requires Inv-loop μ-loop
 part-u16-requires c κs = search needs
 
--- src/call.rt:148:13
 part-u16-requires-2 : tie.Need-part-u16-requires-2 Inv-loop μ-loop
 part-u16-requires-2 c κs = search needs
 
--- src/call.rt:144:9
 device-requires : tie.Need-device-requires Inv-loop μ-loop
 device-requires c κs = search needs
 
--- src/call.rt:150:9
 plus-requires : tie.Need-plus-requires Inv-loop μ-loop
 plus-requires c κs = search needs
 
--- src/call.rt:151:9
 add-d : tie.Need-add-d Inv-loop μ-loop
 add-d c = search needs
 
--- src/call.rt:143:5
 loop-less : tie.Need-loop-less Inv-loop μ-loop
 loop-less c = search needs
 
--- src/call.rt:143:5
 loop-again : tie.Need-loop-again Inv-loop μ-loop
 loop-again c = search needs
 
--- src/call.rt:140:1
 returns : tie.Need-returns Inv-loop μ-loop
 returns c = search needs
 

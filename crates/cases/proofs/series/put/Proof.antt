@@ -1,11 +1,10 @@
-use mathlib.Core.Path.{_≡_}
-use lib.ListN.{length}
+-- `cases::series::put` is safe and ends. Assumes nothing.
 use Prim.Native.Nat.{_-_}
 use borrow.Author.Needs.{needs}
+use lib.ListN.{length}
+use mathlib.Core.Path.{_≡_}
 use Rattle.cases.proofs.series.put.Statement.{statement}
 use Rattle.cases.proofs.series.put.Tie as tie
-use Rattle.cases.proofs.series.put.Reads as reads
-use Rattle.cases.proofs.series.put.Lts as lts
 
 abbrev Inv-loop : tie.InvT-loop
 Inv-loop row₀ from to v i₀ row i = length row ≡ length row₀
@@ -13,43 +12,33 @@ Inv-loop row₀ from to v i₀ row i = length row ≡ length row₀
 abbrev μ-loop : tie.MeasureT-loop
 μ-loop row₀ from to v i₀ row i = to - i
 
--- src/rows.rt:27:5
 loop-holds : tie.Need-loop-holds Inv-loop μ-loop
 loop-holds c = search needs
 
--- src/rows.rt:29:13
 same-length : tie.Need-same-length Inv-loop μ-loop
 same-length c = search needs
 
--- src/rows.rt:29:13
 returns : tie.Need-returns Inv-loop μ-loop
 returns c = search needs
 
--- src/rows.rt:31:9
 mul-row : tie.Need-mul-row Inv-loop μ-loop
 mul-row c = search needs
 
--- src/rows.rt:31:9
 slice-write-row : tie.Need-slice-write-row Inv-loop μ-loop
 slice-write-row c = search needs
 
--- src/rows.rt:32:9
 add-i : tie.Need-add-i Inv-loop μ-loop
 add-i c = search needs
 
--- src/rows.rt:27:5
 loop-less : tie.Need-loop-less Inv-loop μ-loop
 loop-less c = search needs
 
--- src/rows.rt:27:5
 loop-again : tie.Need-loop-again Inv-loop μ-loop
 loop-again c = search needs
 
--- src/rows.rt:25:1
 same-length-2 : tie.Need-same-length-2 Inv-loop μ-loop
 same-length-2 c = search needs
 
--- src/rows.rt:25:1
 returns-2 : tie.Need-returns-2 Inv-loop μ-loop
 returns-2 c = search needs
 

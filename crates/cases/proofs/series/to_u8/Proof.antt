@@ -1,11 +1,10 @@
-use mathlib.Core.Path.{_≡_}
-use lib.ListN.{length}
+-- `cases::series::to_u8` is safe and ends. Assumes nothing.
 use Prim.Native.Nat.{_-_}
 use borrow.Author.Needs.{needs}
+use lib.ListN.{length}
+use mathlib.Core.Path.{_≡_}
 use Rattle.cases.proofs.series.to_u8.Statement.{statement}
 use Rattle.cases.proofs.series.to_u8.Tie as tie
-use Rattle.cases.proofs.series.to_u8.Reads as reads
-use Rattle.cases.proofs.series.to_u8.Lts as lts
 
 abbrev Inv-loop : tie.InvT-loop
 Inv-loop from n to₀ i₀ to i = length to ≡ length to₀
@@ -13,59 +12,45 @@ Inv-loop from n to₀ i₀ to i = length to ≡ length to₀
 abbrev μ-loop : tie.MeasureT-loop
 μ-loop from n to₀ i₀ to i = n - i
 
--- src/rows.rt:57:5
 loop-holds : tie.Need-loop-holds Inv-loop μ-loop
 loop-holds c = search needs
 
--- src/rows.rt:59:13
 same-length : tie.Need-same-length Inv-loop μ-loop
 same-length c = search needs
 
--- src/rows.rt:59:13
 returns : tie.Need-returns Inv-loop μ-loop
 returns c = search needs
 
--- src/rows.rt:62:13
 same-length-2 : tie.Need-same-length-2 Inv-loop μ-loop
 same-length-2 c = search needs
 
--- src/rows.rt:62:13
 returns-2 : tie.Need-returns-2 Inv-loop μ-loop
 returns-2 c = search needs
 
--- src/rows.rt:64:18
 mul-to : tie.Need-mul-to Inv-loop μ-loop
 mul-to c = search needs
 
--- src/rows.rt:64:18
 shared-slice-read-to : tie.Need-shared-slice-read-to Inv-loop μ-loop
 shared-slice-read-to c = search needs
 
--- src/rows.rt:64:17
 cast-to : tie.Need-cast-to Inv-loop μ-loop
 cast-to c = search needs
 
--- src/rows.rt:64:9
 slice-write-to : tie.Need-slice-write-to Inv-loop μ-loop
 slice-write-to c = search needs
 
--- src/rows.rt:65:9
 add-i : tie.Need-add-i Inv-loop μ-loop
 add-i c = search needs
 
--- src/rows.rt:57:5
 loop-less : tie.Need-loop-less Inv-loop μ-loop
 loop-less c = search needs
 
--- src/rows.rt:57:5
 loop-again : tie.Need-loop-again Inv-loop μ-loop
 loop-again c = search needs
 
--- src/rows.rt:55:1
 same-length-3 : tie.Need-same-length-3 Inv-loop μ-loop
 same-length-3 c = search needs
 
--- src/rows.rt:55:1
 returns-3 : tie.Need-returns-3 Inv-loop μ-loop
 returns-3 c = search needs
 

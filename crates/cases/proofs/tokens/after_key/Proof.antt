@@ -1,10 +1,9 @@
-use lib.ListN.{length}
+-- `cases::tokens::after_key` is safe and ends. Assumes nothing.
 use Prim.Native.Nat.{_≤_, _-_}
 use borrow.Author.Needs.{needs}
+use lib.ListN.{length}
 use Rattle.cases.proofs.tokens.after_key.Statement.{statement}
 use Rattle.cases.proofs.tokens.after_key.Tie as tie
-use Rattle.cases.proofs.tokens.after_key.Reads as reads
-use Rattle.cases.proofs.tokens.after_key.Lts as lts
 
 abbrev Inv-loop : tie.InvT-loop
 Inv-loop t at i₀ i = 0 ≤ i
@@ -12,35 +11,27 @@ Inv-loop t at i₀ i = 0 ≤ i
 abbrev μ-loop : tie.MeasureT-loop
 μ-loop t at i₀ i = length t - i
 
--- src/tokens.rt:69:5
 loop-holds : tie.Need-loop-holds Inv-loop μ-loop
 loop-holds c = search needs
 
--- src/tokens.rt:70:12
 shared-slice-read-if1 : tie.Need-shared-slice-read-if1 Inv-loop μ-loop
 shared-slice-read-if1 c = search needs
 
--- src/tokens.rt:71:20
 add-result : tie.Need-add-result Inv-loop μ-loop
 add-result c = search needs
 
--- src/tokens.rt:71:13
 returns : tie.Need-returns Inv-loop μ-loop
 returns c = search needs
 
--- src/tokens.rt:73:9
 add-i : tie.Need-add-i Inv-loop μ-loop
 add-i c = search needs
 
--- src/tokens.rt:69:5
 loop-less : tie.Need-loop-less Inv-loop μ-loop
 loop-less c = search needs
 
--- src/tokens.rt:69:5
 loop-again : tie.Need-loop-again Inv-loop μ-loop
 loop-again c = search needs
 
--- src/tokens.rt:67:1
 returns-2 : tie.Need-returns-2 Inv-loop μ-loop
 returns-2 c = search needs
 
