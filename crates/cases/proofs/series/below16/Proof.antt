@@ -1,0 +1,17 @@
+-- `cases::series::below16` is safe and ends. Assumes nothing.
+use Rattle.cases.proofs.Signs.{down-fits-16}
+use borrow.Author.Needs.{needs}
+use Rattle.cases.proofs.series.below16.Statement.{statement}
+use Rattle.cases.proofs.series.below16.Tie as tie
+
+cast-result : tie.Need-cast-result
+cast-result c = search needs
+
+sub-result : tie.Need-sub-result
+sub-result c = down-fits-16 (c .args .m) (c .pre)
+
+returns : tie.Need-returns
+returns c = search needs
+
+pub below16-spec : {M : Type 1} → statement M
+below16-spec = tie.close (tie.spec cast-result sub-result returns)

@@ -1,0 +1,51 @@
+-- `cases::show::checksum_u8` is safe and ends. Assumes nothing.
+use Prim.Native.Nat.{_≤_, _-_}
+use borrow.Author.Needs.{needs}
+use lib.ListN.{length}
+use Rattle.cases.proofs.show.checksum_u8.Statement.{statement}
+use Rattle.cases.proofs.show.checksum_u8.Tie as tie
+
+abbrev Inv-loop : tie.InvT-loop
+Inv-loop row sum₀ i₀ sum i = 0 ≤ i
+
+abbrev μ-loop : tie.MeasureT-loop
+μ-loop row sum₀ i₀ sum i = length row - i
+
+loop-holds : tie.Need-loop-holds Inv-loop μ-loop
+loop-holds c = search needs
+
+shared-slice-read-wide8 : tie.Need-shared-slice-read-wide8 Inv-loop μ-loop
+shared-slice-read-wide8 c = search needs
+
+wide8-requires : tie.Need-wide8-requires Inv-loop μ-loop
+wide8-requires c κs = search needs
+
+mixed-requires : tie.Need-mixed-requires Inv-loop μ-loop
+mixed-requires c κs = search needs
+
+add-i : tie.Need-add-i Inv-loop μ-loop
+add-i c = search needs
+
+loop-less : tie.Need-loop-less Inv-loop μ-loop
+loop-less c = search needs
+
+loop-again : tie.Need-loop-again Inv-loop μ-loop
+loop-again c = search needs
+
+returns : tie.Need-returns Inv-loop μ-loop
+returns c = search needs
+
+pub checksum-u8-spec : {M : Type 1} → statement M
+checksum-u8-spec =
+    tie.close
+    (tie.spec
+    Inv-loop
+    μ-loop
+    loop-holds
+    shared-slice-read-wide8
+    wide8-requires
+    mixed-requires
+    add-i
+    loop-less
+    loop-again
+    returns)

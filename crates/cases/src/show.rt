@@ -1,0 +1,269 @@
+// What is printed of a case.
+use crate::series;
+use crate::tokens;
+use checks::Refusal;
+use figures::Figures;
+use libc::STDOUT_FILENO;
+use sheet_text::WriteAnswer;
+
+pub fn text(t: &[u8]) {
+    io::write_all(STDOUT_FILENO, t);
+}
+
+fn line(key: &[u8], v: u64) {
+    text(key);
+    io::print_decimal(STDOUT_FILENO, v);
+    text(b"\n");
+}
+
+fn spaced(v: u64) {
+    text(b" ");
+    io::print_decimal(STDOUT_FILENO, v);
+}
+
+// Document 01's number, device and place.
+fn number_of(r: Refusal) -> u64 {
+    match r {
+        Refusal::Intervals => 1,
+        Refusal::Devices => 2,
+        Refusal::Lengths => 3,
+        Refusal::Mine => 4,
+        Refusal::Kind(_) => 5,
+        Refusal::Misplaced(_) => 6,
+        Refusal::Check(_, _) => 7,
+        Refusal::Reading(_, _) => 8,
+        Refusal::Fuel(_) => 9,
+    }
+}
+
+fn device_of(r: Refusal) -> usize {
+    match r {
+        Refusal::Intervals => 0,
+        Refusal::Devices => 0,
+        Refusal::Lengths => 0,
+        Refusal::Mine => 0,
+        Refusal::Kind(d) => d,
+        Refusal::Misplaced(d) => d,
+        Refusal::Check(d, _) => d,
+        Refusal::Reading(d, _) => d,
+        Refusal::Fuel(_) => 0,
+    }
+}
+
+fn place_of(r: Refusal) -> usize {
+    match r {
+        Refusal::Intervals => 0,
+        Refusal::Devices => 0,
+        Refusal::Lengths => 0,
+        Refusal::Mine => 0,
+        Refusal::Kind(_) => 0,
+        Refusal::Misplaced(_) => 0,
+        Refusal::Check(_, k) => k,
+        Refusal::Reading(_, k) => k,
+        Refusal::Fuel(k) => k,
+    }
+}
+
+fn all_kept(outcome: &[u8], flow_used: &[u16], content_used: &[u16]) -> u64 {
+    if !series::kept_u8(outcome, outcome.len()) {
+        return 0;
+    }
+    if !series::kept_u16(flow_used, flow_used.len()) {
+        return 0;
+    }
+    if series::kept_u16(content_used, content_used.len()) {
+        1
+    } else {
+        0
+    }
+}
+
+// A refusal, and whether every entry of the three result rows is what it was.
+pub fn refusal(r: Refusal, outcome: &[u8], flow_used: &[u16], content_used: &[u16]) {
+    line(b"refusal=", number_of(r));
+    line(b"device=", device_of(r) as u64);
+    line(b"place=", place_of(r) as u64);
+    line(b"kept=", all_kept(outcome, flow_used, content_used));
+}
+
+// One entry more in a checksum: entries exchanged give another one.
+fn mixed(sum: u64, v: u64) -> u64 {
+    (sum % 1000003 * 31 + v % 65536 + 1) % 1000003
+}
+
+fn wide8(v: u8) -> u64 {
+    v as u64
+}
+
+fn wide16(v: u16) -> u64 {
+    v as u64
+}
+
+fn checksum_u8(row: &[u8]) -> u64 {
+    let mut sum: u64 = 0;
+    let mut i = 0;
+    while i < row.len() {
+        sum = mixed(sum, wide8(row[i]));
+        i += 1;
+    }
+    sum
+}
+
+fn checksum_u16(row: &[u16]) -> u64 {
+    let mut sum: u64 = 0;
+    let mut i = 0;
+    while i < row.len() {
+        sum = mixed(sum, wide16(row[i]));
+        i += 1;
+    }
+    sum
+}
+
+fn counted(sum: u64, o: u8, code: u8) -> u64 {
+    if o == code {
+        if sum < 1000000 {
+            return sum + 1;
+        }
+    }
+    sum
+}
+
+fn count(row: &[u8], code: u8) -> u64 {
+    let mut sum: u64 = 0;
+    let mut i = 0;
+    while i < row.len() {
+        sum = counted(sum, row[i], code);
+        i += 1;
+    }
+    sum
+}
+
+fn counts(outcome: &[u8]) {
+    let mut code: u8 = 0;
+    while code < 10 {
+        spaced(count(outcome, code));
+        code += 1;
+    }
+}
+
+// A device: how many of each outcome its row has, and its rows' checksums.
+pub fn device(d: u64, outcome: &[u8], flow_used: &[u16], content_used: &[u16]) {
+    text(b"device");
+    spaced(d);
+    text(b" counts");
+    counts(outcome);
+    text(b" sums");
+    spaced(checksum_u8(outcome));
+    spaced(checksum_u16(flow_used));
+    spaced(checksum_u16(content_used));
+    text(b"\n");
+}
+
+fn fewer(left: u64, b: u8) -> u64 {
+    if b == 10 {
+        if 0 < left {
+            return left - 1;
+        }
+    }
+    left
+}
+
+// Where the line after so many lines begins.
+fn line_at(t: &[u8], lines: u64) -> usize {
+    let mut left = lines;
+    let mut i = 0;
+    while i < t.len() {
+        if left == 0 {
+            return i;
+        }
+        left = fewer(left, t[i]);
+        i += 1;
+    }
+    i
+}
+
+// A signed number of milligrams as 10^18 more than it is, so that it is not negative.
+fn lifted(minus: bool, mg: u64) -> u64 {
+    if 1000000000000000000 < mg {
+        0
+    } else if minus {
+        1000000000000000000 - mg
+    } else {
+        1000000000000000000 + mg
+    }
+}
+
+fn exact_mg(t: &[u8], at: usize) -> u64 {
+    let minus = tokens::stands(t, at, 45);
+    let start = if minus { tokens::after(t, at) } else { at };
+    let n = tokens::number(t, start);
+    lifted(minus, n.value)
+}
+
+// The milligrams of a sheet's tonnes, as it is written in line 14.
+fn reported_mg(t: &[u8]) -> u64 {
+    let line = line_at(t, 13);
+    let at = tokens::after_key(t, line);
+    let minus = tokens::stands(t, at, 45);
+    let start = if minus { tokens::after(t, at) } else { at };
+    let n = tokens::number(t, start);
+    let v = n.value;
+    if 1000000000 < v {
+        return 0;
+    }
+    lifted(minus, v * 1000000000)
+}
+
+// Demand 3: a tonne, 25 grams for each counted interval of a device and 13 grams for each device.
+fn short_by(reported: u64, counted: u64, devices: u64) -> u64 {
+    if 2000000000000000000 < reported {
+        return 0;
+    }
+    reported + 1000000000 + counted % 1000000 * 25000 + devices % 1000 * 13000
+}
+
+// 1 is what demand 3 asks: not above, and short by less than it allows.
+fn verdict(above: bool, short: bool) -> u64 {
+    if above {
+        if short { 3 } else { 2 }
+    } else {
+        if short { 1 } else { 0 }
+    }
+}
+
+// The sheet, and whether its tonnes are as near to the exact reduction in the text at `at` as demand 3 asks.
+pub fn sheet(f: Figures, t: &[u8], at: usize) -> u64 {
+    let mut buf = [0u8; 465];
+    let a = sheet_text::write(f, &mut buf);
+    let WriteAnswer::Written(n) = a else {
+        return 9;
+    };
+    let s = series::first_u8(&buf, n);
+    text(s);
+    let exact = exact_mg(t, at);
+    let reported = reported_mg(s);
+    verdict(
+        exact < reported,
+        exact < short_by(reported, f.counted, f.devices),
+    )
+}
+
+// The exact milligrams as the input has them, with the two halves of demand 3.
+pub fn exact(t: &[u8], at: usize, verdict: u64) {
+    text(b"exact_mg=");
+    let e = tokens::end(t, at);
+    if at <= e {
+        text(series::part_u8(t, at, e - at));
+    }
+    text(b" above=");
+    io::print_decimal(STDOUT_FILENO, verdict / 2);
+    line(b" short=", verdict % 2);
+}
+
+pub fn name(t: &[u8], from: usize, to: usize) {
+    text(b"case ");
+    if from <= to {
+        text(series::part_u8(t, from, to - from));
+    }
+    text(b"\n");
+}
