@@ -30,12 +30,12 @@ use Rattle.checks.specs.Accepted.{Accepted as NotRefused}
 use Rattle.checks.specs.declared.Refusal.{Refusal}
 use Rattle.checks.specs.declared.Verdict.{Verdict}
 use Rattle.checks.specs.declared.Verdict.the-variants.{Clean, Refused as Offended}
-use Rattle.checks.proofs.Laws.{accepted}
+use Rattle.checks.proofs.Laws.{accepted, judged-clean, judged-refused}
 use Rattle.figures.specs.declared.Figures.{Figures}
 use Rattle.quantify.specs.declared.Answer.{Answer}
 use Rattle.quantify.specs.declared.Answer.the-variants.{Accepted, Refused}
 use Rattle.quantify.specs.Sheet.{lentIn, fuelIn, figuresFrom, figuresOf}
-use Rattle.quantify.specs.Promise.{answerBy, rowsBy, usedIn, Settled}
+use Rattle.quantify.specs.Promise.{answerBy, rowsBy, numberIn, deviceIn, placeIn, Told, usedIn, Settled}
 use Rattle.quantify.proofs.Sound.{sound}
 
 same-litres : {o o′ f f′ g g′ p p′ : ℕ} {t t′ : ℤ} → o ≡ o′ → f ≡ f′ → g ≡ g′ → t ≡ t′ → p ≡ p′
@@ -143,6 +143,15 @@ same-figures f g e = cc
 never : {X : Type 0} (r : Refusal) (f : Figures) → Refused r ≡ Accepted f → X
 never r f e = let z : _≡_ {A = ℕ} 0 1 = cc in absurd (let w : ⊥ = omega arith in w)
 
+-- the answer's numbers, through the definitions that give document 01's
+told-by : (c : Call) (a : Answer) → a ≡ answerBy (judged c) c → Told c a
+unfolding answerBy
+told-by c a e =
+    record {
+      clear = λ x. let q : a ≡ Accepted (figuresOf c) = e ∙ ap (λ (v : Verdict). answerBy v c) (judged-clean c x) in (ap numberIn q, ap deviceIn q, ap placeIn q);
+      offended = λ r x. let q : a ≡ Refused r = e ∙ ap (λ (v : Verdict). answerBy v c) (judged-refused c r x) in (ap numberIn q, ap deviceIn q, ap placeIn q);
+    }
+
 -- refused: the answer is the refusal and nothing has changed
 pub settled-refused : (c : Call) (before : Rows) (r : Refusal) → judged c ≡ Offended r → Settled c before before (Refused r)
 unfolding answerBy rowsBy
@@ -150,6 +159,7 @@ settled-refused c before r e =
     record {
       answer = sym (ap (λ (v : Verdict). answerBy v c) e);
       rows = sym (ap (λ (v : Verdict). rowsBy v c before) e);
+      told = told-by c (Refused r) (sym (ap (λ (v : Verdict). answerBy v c) e));
       fair = λ f q. never r f q;
       partition = λ f q. never r f q;
       sheet-partition = λ f q. never r f q;
@@ -165,6 +175,7 @@ settled-accepted c before now e w =
     record {
       answer = sym (ap (λ (v : Verdict). answerBy v c) e);
       rows = w ∙ sym (ap (λ (v : Verdict). rowsBy v c before) e);
+      told = told-by c (Accepted (figuresOf c)) (sym (ap (λ (v : Verdict). answerBy v c) e));
       fair = λ f q.
           subst (λ (r : Rows). Fair (exactReduction (usedIn c r)) (f .tonnes) (promised (usedIn c r))) (sym w)
           (subst (λ (g : Figures). Fair (exactReduction (usedIn c (rowsOf (lentIn c) (c .devices)))) (g .tonnes) (promised (usedIn c (rowsOf (lentIn c) (c .devices))))) (same-figures (figuresOf c) f q) (fair-call c x));

@@ -9,7 +9,9 @@ use Rattle.outcomes.specs.Outcomes.{counted}
 use Rattle.balance.specs.Balance.{destroyedOf, uncombustedOf}
 use Rattle.exact.specs.Exact.{Used, Fair, exactReduction, promised}
 use Rattle.checks.specs.Call.{Call}
-use Rattle.checks.specs.Steps.{judged, numberOf, deviceOf, placeOf}
+use Rattle.checks.specs.Steps.{judged, stepsOf, numberOf, deviceOf, placeOf}
+use Rattle.checks.specs.Accepted.{AllClear, Refuses}
+use Rattle.checks.specs.declared.Refusal.{Refusal}
 use Rattle.checks.specs.declared.Verdict.{Verdict}
 use Rattle.checks.specs.declared.Verdict.the-variants.{Clean, Refused as Offended}
 use Rattle.figures.specs.declared.Figures.{Figures}
@@ -43,6 +45,11 @@ abbrev pub placeIn : Answer → ℕ
 placeIn (Accepted f) = 0
 placeIn (Refused r) = placeOf r
 
+-- the answer's numbers are those of the first offended step's first offender, or 0 if no step is offended
+pub record Told (c : Call) (a : Answer) : Type 0 where
+  pub clear : AllClear (stepsOf c) → (numberIn a ≡ 0) × (deviceIn a ≡ 0) × (placeIn a ≡ 0)
+  pub offended : (r : Refusal) → Refuses (stepsOf c) r → (numberIn a ≡ numberOf r) × (deviceIn a ≡ deviceOf r) × (placeIn a ≡ placeOf r)
+
 -- the values used, "replacements included, as given": what stands in the result rows, beside temperature, pressure, kinds and
 -- fuel as lent
 unfoldable pub usedIn : Call → Rows → Used
@@ -65,6 +72,7 @@ pub record Settled (c : Call) (before after : Rows) (a : Answer) : Type 0 where
   -- demands 1 and 2: the answer with every figure, and every entry of the three rows, of refused calls too
   pub answer : a ≡ answerBy (judged c) c
   pub rows : after ≡ rowsBy (judged c) c before
+  pub told : Told c a
   -- demand 3, of every accepted call: the reported tonnes never exceed the exact reduction over the values used, and fall
   -- short by less than 1 tonne and the promised grams
   pub fair : (f : Figures) → a ≡ Accepted f → Fair (exactReduction (usedIn c after)) (f .tonnes) (promised (usedIn c after))
