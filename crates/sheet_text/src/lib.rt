@@ -28,8 +28,9 @@ pub enum WriteAnswer {
     TooShort(usize),
 }
 
-// Document 01's number, device and place of an answer.
+// Document 01's number, device and place of an answer, as specs/Read.antt and specs/Write.antt have them.
 impl ReadAnswer {
+    // Rules out: 10 for a sheet; 11 for a text that is none.
     pub fn number(self) -> u64
         ensures { λ r. ⌜ r ≡ Read.numberOf self ⌝ }
     {
@@ -39,12 +40,14 @@ impl ReadAnswer {
         }
     }
 
+    // Rules out: the figure `devices`; the place.
     pub fn device(self) -> u64
         ensures { λ r. ⌜ r ≡ Read.deviceOf self ⌝ }
     {
         0
     }
 
+    // Rules out: 0 for every refusal; the line's number.
     pub fn place(self) -> usize
         ensures { λ r. ⌜ r ≡ Read.placeOf self ⌝ }
     {
@@ -56,6 +59,7 @@ impl ReadAnswer {
 }
 
 impl WriteAnswer {
+    // Rules out: 11 for a sheet that was written; 10 for a buffer that is too short.
     pub fn number(self) -> u64
         ensures { λ r. ⌜ r ≡ Write.numberOf self ⌝ }
     {
@@ -65,12 +69,14 @@ impl WriteAnswer {
         }
     }
 
+    // Rules out: the figure `devices`; the place.
     pub fn device(self) -> u64
         ensures { λ r. ⌜ r ≡ Write.deviceOf self ⌝ }
     {
         0
     }
 
+    // Rules out: the buffer's length; 0 for every refusal.
     pub fn place(self) -> usize
         ensures { λ r. ⌜ r ≡ Write.placeOf self ⌝ }
     {

@@ -1,6 +1,7 @@
 -- `sheet_text::write` meets its contract: the first run is over no buffer and only measures. Assumes nothing.
 use Prim.Native.Nat.{ℕ}
 use mathlib.Core.Path.{ap}
+use native.Mathlib.Omega.{arith}
 use mathlib.Core.List.{List, _++_}
 use denote.Ref.{now}
 use Rattle.sheet_text.specs.Sheet.{textOf}
@@ -10,7 +11,7 @@ use Rattle.sheet_text.proofs.write.Statement.{statement}
 use Rattle.sheet_text.proofs.write.Tie as tie
 
 slice-relend-prefix-put-sheet : tie.Need-slice-relend-prefix-put-sheet
-slice-relend-prefix-put-sheet c = search needs
+slice-relend-prefix-put-sheet c = omega arith
 
 slice-aggregate-put-sheet : tie.Need-slice-aggregate-put-sheet
 slice-aggregate-put-sheet c = search needs
@@ -24,7 +25,7 @@ same-length c = search needs
 returns : tie.Need-returns
 returns c =
     put-short (c .before .before .before .before .before .before .args .f) (now (c .before .before .before .before .before .before .args .buf)) (c .before .before .before .put-sheet .last .1 .0 ++ now (c .before .before .before .before .before .before .args .buf)) (c .before .before .before .put-sheet .result)
-    (ap (λ (x : List ℕ). x ++ now (c .before .before .before .before .before .before .args .buf)) (nothing (c .before .before .before .put-sheet .last .1 .0) (textOf (c .before .before .before .before .before .before .args .f)) (c .before .before .before .put-sheet .ensures .is))) (c .before .before .before .put-sheet .ensures .stops) (c .if1 .taken)
+    (ap (λ (x : List ℕ). x ++ now (c .before .before .before .before .before .before .args .buf)) (nothing (c .before .before .before .put-sheet .last .1 .0) (textOf (c .before .before .before .before .before .before .args .f)) (c .before .before .before .put-sheet .ensures .is))) (c .before .before .before .put-sheet .ensures .stops) (omega (arith, c .if1 .taken))
 
 put-sheet-requires-2 : tie.Need-put-sheet-requires-2
 put-sheet-requires-2 c κs = search needs
@@ -35,7 +36,7 @@ same-length-2 c = search needs
 returns-2 : tie.Need-returns-2
 returns-2 c =
     put-done (c .before .before .before .before .before .before .before .before .before .before .args .f) (now (c .before .before .before .before .before .before .before .before .before .before .args .buf)) (c .before .before .before .before .before .before .before .put-sheet .last .1 .0 ++ now (c .before .before .before .before .before .before .before .before .before .before .args .buf)) (c .before .before .put-sheet2 .last .1 .0) (c .before .before .before .before .before .before .before .put-sheet .result) (c .before .before .put-sheet2 .result)
-    (ap (λ (x : List ℕ). x ++ now (c .before .before .before .before .before .before .before .before .before .before .args .buf)) (nothing (c .before .before .before .before .before .before .before .put-sheet .last .1 .0) (textOf (c .before .before .before .before .before .before .before .before .before .before .args .f)) (c .before .before .before .before .before .before .before .put-sheet .ensures .is))) (c .before .before .before .before .before .before .before .put-sheet .ensures .stops) (c .before .before .before .before .if1 .left) (c .before .before .put-sheet2 .ensures)
+    (ap (λ (x : List ℕ). x ++ now (c .before .before .before .before .before .before .before .before .before .before .args .buf)) (nothing (c .before .before .before .before .before .before .before .put-sheet .last .1 .0) (textOf (c .before .before .before .before .before .before .before .before .before .before .args .f)) (c .before .before .before .before .before .before .before .put-sheet .ensures .is))) (c .before .before .before .before .before .before .before .put-sheet .ensures .stops) (omega (arith, c .before .before .before .before .if1 .left)) (c .before .before .put-sheet2 .ensures)
 
 pub write-spec : {M : Type 1} → statement M
 write-spec =
