@@ -21,49 +21,6 @@ fn spaced(v: u64) {
     io::print_decimal(STDOUT_FILENO, v);
 }
 
-// Document 01's number, device and place.
-fn number_of(r: Refusal) -> u64 {
-    match r {
-        Refusal::Intervals => 1,
-        Refusal::Devices => 2,
-        Refusal::Lengths => 3,
-        Refusal::Mine => 4,
-        Refusal::Kind(_) => 5,
-        Refusal::Misplaced(_) => 6,
-        Refusal::Check(_, _) => 7,
-        Refusal::Reading(_, _) => 8,
-        Refusal::Fuel(_) => 9,
-    }
-}
-
-fn device_of(r: Refusal) -> usize {
-    match r {
-        Refusal::Intervals => 0,
-        Refusal::Devices => 0,
-        Refusal::Lengths => 0,
-        Refusal::Mine => 0,
-        Refusal::Kind(d) => d,
-        Refusal::Misplaced(d) => d,
-        Refusal::Check(d, _) => d,
-        Refusal::Reading(d, _) => d,
-        Refusal::Fuel(_) => 0,
-    }
-}
-
-fn place_of(r: Refusal) -> usize {
-    match r {
-        Refusal::Intervals => 0,
-        Refusal::Devices => 0,
-        Refusal::Lengths => 0,
-        Refusal::Mine => 0,
-        Refusal::Kind(_) => 0,
-        Refusal::Misplaced(_) => 0,
-        Refusal::Check(_, k) => k,
-        Refusal::Reading(_, k) => k,
-        Refusal::Fuel(k) => k,
-    }
-}
-
 fn all_kept(outcome: &[u8], flow_used: &[u16], content_used: &[u16]) -> u64 {
     if !series::kept_u8(outcome, outcome.len()) {
         return 0;
@@ -80,9 +37,9 @@ fn all_kept(outcome: &[u8], flow_used: &[u16], content_used: &[u16]) -> u64 {
 
 // A refusal, and whether every entry of the three result rows is what it was.
 pub fn refusal(r: Refusal, outcome: &[u8], flow_used: &[u16], content_used: &[u16]) {
-    line(b"refusal=", number_of(r));
-    line(b"device=", device_of(r) as u64);
-    line(b"place=", place_of(r) as u64);
+    line(b"refusal=", r.number());
+    line(b"device=", r.device() as u64);
+    line(b"place=", r.place() as u64);
     line(b"kept=", all_kept(outcome, flow_used, content_used));
 }
 
