@@ -170,7 +170,7 @@ fn shown(
 ) {
     match a {
         Answer::Accepted(f) => {
-            let verdict = show::sheet(f, t, exact);
+            let near = show::sheet(f, t, exact);
             each_device(
                 f.intervals as usize,
                 f.devices,
@@ -178,7 +178,7 @@ fn shown(
                 flow_used,
                 content_used,
             );
-            show::exact(t, exact, verdict);
+            show::exact(t, exact, near);
         }
         Answer::Refused(r) => {
             show::refusal(r, outcome, flow_used, content_used);

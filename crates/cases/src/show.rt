@@ -172,49 +172,61 @@ fn reported_mg(t: &[u8]) -> u64 {
 }
 
 // Demand 3: a tonne, 25 grams for each counted interval of a device and 13 grams for each device.
-fn short_by(reported: u64, counted: u64, devices: u64) -> u64 {
-    if 2000000000000000000 < reported {
-        return 0;
-    }
-    reported + 1000000000 + counted % 1000000 * 25000 + devices % 1000 * 13000
+fn allowed_mg(counted: u64, devices: u64) -> u64 {
+    1000000000 + counted % 1000000 * 25000 + devices % 1000 * 13000
 }
 
-// 1 is what demand 3 asks: not above, and short by less than it allows.
-fn verdict(above: bool, short: bool) -> u64 {
-    if above {
-        if short { 3 } else { 2 }
+// Where the reported tonnes stand to the exact milligrams: above them or not, how far off, and below what that has to stay.
+pub struct Nearness {
+    pub above: u64,
+    pub distance: u64,
+    pub below: u64,
+}
+
+fn near_to(exact: u64, reported: u64, below: u64) -> Nearness {
+    if reported <= exact {
+        Nearness {
+            above: 0,
+            distance: exact - reported,
+            below,
+        }
     } else {
-        if short { 1 } else { 0 }
+        Nearness {
+            above: 1,
+            distance: reported - exact,
+            below,
+        }
     }
 }
 
-// The sheet, and whether its tonnes are as near to the exact reduction in the text at `at` as demand 3 asks.
-pub fn sheet(f: Figures, t: &[u8], at: usize) -> u64 {
+// The sheet, and how near its tonnes are to the exact reduction in the text at `at`.
+pub fn sheet(f: Figures, t: &[u8], at: usize) -> Nearness {
     let mut buf = [0u8; 465];
     let a = sheet_text::write(f, &mut buf);
     let WriteAnswer::Written(n) = a else {
-        return 9;
+        return near_to(0, 1, 0);
     };
     let s = series::first_u8(&buf, n);
     text(s);
-    let exact = exact_mg(t, at);
-    let reported = reported_mg(s);
-    verdict(
-        exact < reported,
-        exact < short_by(reported, f.counted, f.devices),
+    near_to(
+        exact_mg(t, at),
+        reported_mg(s),
+        allowed_mg(f.counted, f.devices),
     )
 }
 
-// The exact milligrams as the input has them, with the two halves of demand 3.
-pub fn exact(t: &[u8], at: usize, verdict: u64) {
+// The exact milligrams as the input has them, and the two halves of demand 3.
+pub fn exact(t: &[u8], at: usize, near: Nearness) {
     text(b"exact_mg=");
     let e = tokens::end(t, at);
     if at <= e {
         text(series::part_u8(t, at, e - at));
     }
     text(b" above=");
-    io::print_decimal(STDOUT_FILENO, verdict / 2);
-    line(b" short=", verdict % 2);
+    io::print_decimal(STDOUT_FILENO, near.above);
+    text(b" distance=");
+    io::print_decimal(STDOUT_FILENO, near.distance);
+    line(b" below=", near.below);
 }
 
 pub fn name(t: &[u8], from: usize, to: usize) {
