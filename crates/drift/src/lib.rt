@@ -4,6 +4,7 @@ ghost use mathlib.Core.Path.{_≡_};
 ghost use lib.ListN.{length, getD};
 ghost use Rattle.rows.specs.Rows.{build, Continued};
 ghost use Rattle.drift.specs.Drift.{within, keptOr, correctedAt, Ordered};
+use protocol::MISSING;
 
 // Whether a check passes. Ruled out: 500 passes; -500 passes.
 pub fn passed(drift: i32) -> bool
@@ -37,7 +38,7 @@ fn stretch(reading: &[u16], start: usize, end: usize, divisor: u64, used: &mut [
     let mut i = start;
     while i < end {
         let v = reading[i];
-        if v == 65535 {
+        if v == MISSING {
             used[i] = v;
             i += 1;
         } else {

@@ -6,6 +6,7 @@ ghost use Rattle.rows.specs.Rows.{build, Continued};
 ghost use Rattle.protocol.specs.Ranges.{flowMost};
 ghost use Rattle.window.specs.Window.{Sized};
 ghost use Rattle.gaps.specs.Gaps.{widthOf, ruleOf, replacementOf, heldFor, filledAt, Goes};
+use protocol::MISSING;
 use window::Tally;
 
 // A replacement is found, or the interval is excluded: the gap has 673 intervals or more, or a window isn't whole.
@@ -103,7 +104,7 @@ pub fn fill_gaps(reading: &[u16], used: &mut [u16])
     let n = reading.len();
     let mut i = 0;
     while i < n {
-        if reading[i] == 65535 {
+        if reading[i] == MISSING {
             let e = runs::gap_end(reading, i);
             let answer = replace_gap(reading, used, i, e);
             spread(used, i, e, held(answer));

@@ -16,6 +16,7 @@ ghost use Rattle.outcomes.specs.Outcomes.{
   ReadyAt,
   Finished,
 };
+use protocol::MISSING;
 
 pub struct Entry {
     pub outcome: u8,
@@ -110,8 +111,8 @@ pub fn settle(
     let o = outcome(
         status,
         lacks(temp, press),
-        flow == 65535,
-        content == 65535,
+        flow == MISSING,
+        content == MISSING,
         by_flow,
         by_content,
     );

@@ -6,7 +6,7 @@ ghost use lib.Dec.{eqb};
 ghost use lib.ListN.{length, getD};
 ghost use Rattle.rows.specs.Rows.{FirstOf};
 
-// The first index at which two lists of lengths differ, or their common length.
+// The first index at which two lists of lengths differ, or their common length. Ruled out: a later one; the first skipped.
 pub fn first_difference(have: &[usize], want: &[usize]) -> usize
     requires { ⌜ length (now have) ≡ length (now want) ⌝ }
     ensures { λ r. ⌜ FirstOf (length (now (have .entry)))

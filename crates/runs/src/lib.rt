@@ -3,6 +3,7 @@ ghost use Prim.Native.Nat.{ℕ, _+_, _≤_, _<_};
 ghost use mathlib.Core.Path.{_≡_};
 ghost use lib.ListN.{length};
 ghost use Rattle.runs.specs.Runs.{gapEnd, usable, whole};
+use protocol::MISSING;
 
 // The interval after the gap that interval i is in. Ruled out: the gap's last interval; an end past the row.
 pub fn gap_end(reading: &[u16], from: usize) -> usize
@@ -11,7 +12,7 @@ pub fn gap_end(reading: &[u16], from: usize) -> usize
 {
     let mut i = from;
     while i < reading.len() {
-        if reading[i] != 65535 {
+        if reading[i] != MISSING {
             return i;
         }
         i += 1;
@@ -27,12 +28,12 @@ pub fn serves(reading: &[u16], a: usize, e: usize, side: usize, k: usize) -> boo
 {
     if side == 0 {
         if k < a {
-            return reading[a - (k + 1)] != 65535;
+            return reading[a - (k + 1)] != MISSING;
         }
         return false;
     }
     if e + k < reading.len() {
-        return reading[e + k] != 65535;
+        return reading[e + k] != MISSING;
     }
     false
 }
