@@ -15,8 +15,12 @@ use borrow.Author.Tests.{ltb-true, leb-true, lt-ltb, le-ltb, le-leb, lt-leb}
 use Rattle.rows.specs.Rows.{pick, both, either}
 use Rattle.rows.proofs.Laws.{every-all, every-fails}
 use Rattle.protocol.specs.Ranges.{raised}
-use Rattle.drift.specs.Drift.{Instrument, positionOf, driftOf, passes, FailedIn, Greatest, parts, together, excess, excessIn, maxTo, stretchDrift, keptOr, correctedAt, Ordered, PassedAt, Stretch}
+use Rattle.drift.specs.Drift.{Instrument, positionOf, driftOf, passes, FailedIn, Greatest, parts, together, excess, maxTo, stretchDrift, keptOr, correctedAt, Ordered, PassedAt, Stretch}
 use Rattle.drift.proofs.Laws.{maxTo-ext, maxTo-most, maxTo-met, excess-passed, pick-zero}
+
+-- by how much a check of the stretch from s to t reads high
+abbrev pub excessIn : Instrument → ℕ → ℕ → ℕ → ℕ
+excessIn c s t j = pick (both (leb s (positionOf c j)) (leb (positionOf c j) t)) (excess c j) 0
 
 -- ---- what a passed check parts
 

@@ -21,9 +21,9 @@ use Rattle.rows.specs.Rows.{pick, both, build, Continued}
 use Rattle.rows.proofs.Laws.{build-done}
 use Rattle.rows.proofs.Fill.{continued-more}
 use Rattle.protocol.specs.Ranges.{raised}
-use Rattle.drift.specs.Drift.{Instrument, within, positionOf, driftOf, passes, excess, excessIn, maxTo, stretchDrift, keptOr, correctedAt, Ordered, PassedAt}
+use Rattle.drift.specs.Drift.{Instrument, within, positionOf, driftOf, passes, excess, maxTo, stretchDrift, keptOr, correctedAt, Ordered, PassedAt}
 use Rattle.drift.proofs.Laws.{maxTo-cut, maxTo-zero, excess-passed, pick-zero}
-use Rattle.drift.proofs.Stretches.{stretch-drift, clash}
+use Rattle.drift.proofs.Stretches.{excessIn, stretch-drift, clash}
 
 both-true : (a : Bool) → both a true ≡ a
 both-true true = refl

@@ -103,10 +103,6 @@ pub record Greatest (c : Instrument) (s t d : ℕ) : Type 0 where
   pub most : (j : ℕ) → j < c .count → passes c j ≡ false → s ≤ positionOf c j → positionOf c j ≤ t → raised 0 (driftOf c j) ≤ d
   pub met : 0 < d → FailedIn c s t d
 
--- by how much a check of the stretch from s to t reads high
-abbrev pub excessIn : Instrument → ℕ → ℕ → ℕ → ℕ
-excessIn c s t j = pick (both (leb s (positionOf c j)) (leb (positionOf c j) t)) (excess c j) 0
-
 -- one check at interval 2 with this drift, and the value 1,000 at interval 0
 one-check : ℤ → ℕ
 one-check d = correctedAt (record { count = 1; places = 2 ∷ []; drifts = d ∷ [] }) (1000 ∷ 1000 ∷ 1000 ∷ []) 0
