@@ -8,7 +8,7 @@ use lib.IntN.{pos}
 use lib.ListN.{length, getD}
 use Rattle.rows.specs.Rows.{FirstOf}
 use Rattle.protocol.specs.Kinds.{isKind, misplaced}
-use Rattle.protocol.specs.Ranges.{flowRight, contentRight, tempRight, pressRight, statusRight, driftRight}
+use Rattle.protocol.specs.Ranges.{intervalsMost, devicesMost, flowRight, contentRight, tempRight, pressRight, statusRight, driftRight}
 use Rattle.checks.specs.Call.{Call}
 use Rattle.checks.specs.Steps.{Step}
 use Rattle.checks.specs.declared.Refusal.{Refusal}
@@ -31,9 +31,9 @@ pub data Refuses : List Step → Refusal → Type 0 where
 -- N and D are within their limits, and every slice that is read is as long as they ask
 pub record Shaped (c : Call) : Type 0 where
   pub intervals-least : 1 ≤ c .intervals
-  pub intervals-most : c .intervals ≤ 35136
+  pub intervals-most : c .intervals ≤ intervalsMost
   pub devices-least : 1 ≤ c .devices
-  pub devices-most : c .devices ≤ 16
+  pub devices-most : c .devices ≤ devicesMost
   pub kinds-long : length (c .kinds) ≡ c .devices
   pub counts-long : length (c .counts) ≡ 2 * c .devices
   pub places-long : length (c .places) ≡ 64 * c .devices

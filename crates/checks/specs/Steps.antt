@@ -9,7 +9,7 @@ use lib.IntN.{ℤ, pos}
 use lib.ListN.{length, getD}
 use Rattle.rows.specs.Rows.{pick, both, either, first}
 use Rattle.protocol.specs.Kinds.{isKind, isMine, misplaced}
-use Rattle.protocol.specs.Ranges.{flowRight, contentRight, tempRight, pressRight, statusRight, driftRight}
+use Rattle.protocol.specs.Ranges.{intervalsMost, devicesMost, fromOne, flowRight, contentRight, tempRight, pressRight, statusRight, driftRight}
 use Rattle.checks.specs.Call.{Call}
 use Rattle.checks.specs.declared.Refusal.{Refusal}
 use Rattle.checks.specs.declared.Refusal.the-variants.{Intervals, Devices, Lengths, Mine, Kind, Misplaced, Check, Reading, Fuel}
@@ -67,13 +67,13 @@ verdictOf (s ∷ ss) = pick (ltb (offender s) (s .size)) (Refused (s .refusal (o
 
 -- ---- the nine steps
 
--- "1 | N outside its limits": 1 to 35,136
+-- "1 | N outside its limits"
 unfoldable pub intervalsStep : Call → Step
-intervalsStep c = record { size = 1; bad = λ k. not (both (leb 1 (c .intervals)) (leb (c .intervals) 35136)); refusal = λ k. Intervals }
+intervalsStep c = record { size = 1; bad = λ k. not (fromOne intervalsMost (c .intervals)); refusal = λ k. Intervals }
 
--- "2 | D outside its limits": 1 to 16
+-- "2 | D outside its limits"
 unfoldable pub devicesStep : Call → Step
-devicesStep c = record { size = 1; bad = λ k. not (both (leb 1 (c .devices)) (leb (c .devices) 16)); refusal = λ k. Devices }
+devicesStep c = record { size = 1; bad = λ k. not (fromOne devicesMost (c .devices)); refusal = λ k. Devices }
 
 -- "3 | a lent slice, result rows included, isn't exactly as long as N and D ask, or the fuel slices differ": the lengths
 unfoldable pub lengthsOf : Call → List ℕ

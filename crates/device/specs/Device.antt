@@ -8,7 +8,7 @@ use mathlib.Core.List.{List, [], _∷_}
 use lib.IntN.{ℤ, pos}
 use lib.ListN.{length, getD}
 use Rattle.rows.specs.Rows.{pick, either, build, sumTo, countOf, cut}
-use Rattle.protocol.specs.Ranges.{mark, tempMissing, pressMissing, flowRight, contentRight, tempRight, pressRight, statusRight}
+use Rattle.protocol.specs.Ranges.{intervalsMost, mark, tempMissing, pressMissing, flowRight, contentRight, tempRight, pressRight, statusRight}
 use Rattle.drift.specs.Drift.{Instrument, correctedAt, Ordered}
 use Rattle.runs.specs.Runs.{missingAt}
 use Rattle.gaps.specs.Gaps.{replacementAt}
@@ -109,7 +109,7 @@ pub record Low (reading : List ℕ) (b : ℕ) : Type 0 where
 
 -- what refusals 1 to 8 leave: rows of one length, checks in order, every reading in range or missing
 pub record Right (r : Records) : Type 0 where
-  pub few : intervalsOf r ≤ 35136
+  pub few : intervalsOf r ≤ intervalsMost
   pub contents : length (r .content) ≡ intervalsOf r
   pub temps : length (r .temp) ≡ intervalsOf r
   pub presses : length (r .press) ≡ intervalsOf r

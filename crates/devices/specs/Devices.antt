@@ -5,6 +5,7 @@ use mathlib.Core.Path.{_≡_}
 use mathlib.Core.List.{List}
 use lib.IntN.{ℤ}
 use lib.ListN.{length, getD}
+use Rattle.protocol.specs.Ranges.{intervalsMost, devicesMost}
 use Rattle.rows.specs.Rows.{build, join, cut, put}
 use Rattle.device.specs.Device.{Records, Right, outcomeAt, flowUsedAt, contentUsedAt, accountOf}
 use Rattle.device.specs.declared.Account.{Account}
@@ -65,8 +66,8 @@ rowsOf l devices =
 -- what the refusals leave of what is lent
 pub record Sound (l : Lent) (devices : ℕ) : Type 0 where
   pub some : 1 ≤ l .intervals
-  pub few : l .intervals ≤ 35136
-  pub few-devices : devices ≤ 16
+  pub few : l .intervals ≤ intervalsMost
+  pub few-devices : devices ≤ devicesMost
   pub kinds-long : length (l .kinds) ≡ devices
   pub counts-long : length (l .counts) ≡ 2 * devices
   pub places-long : length (l .places) ≡ 64 * devices

@@ -4,6 +4,7 @@ use Prim.Native.Nat.{ℕ, _+_, _*_, _≤_}
 use mathlib.Core.Path.{_≡_}
 use mathlib.Core.List.{List}
 use lib.ListN.{length, getD}
+use Rattle.protocol.specs.Ranges.{intervalsMost}
 use Rattle.rows.specs.Rows.{sumTo, countOf}
 use Rattle.device.specs.Device.{outcomeAt, methaneOf}
 use Rattle.device.specs.declared.Account.{Account}
@@ -66,7 +67,7 @@ added t a =
 -- totals and an account that can be added within 64 bits
 pub record Room (t : Totals) (a : Account) : Type 0 where
   pub ten : length (a .counts) ≡ 10
-  pub count-most : (j : ℕ) → getD (a .counts) j 0 ≤ 35136
+  pub count-most : (j : ℕ) → getD (a .counts) j 0 ≤ intervalsMost
   pub methane-most : a .methane ≤ deviceMost
   pub destroyed-most : a .destroyed ≤ deviceMost
   pub uncombusted-most : a .uncombusted ≤ deviceMost

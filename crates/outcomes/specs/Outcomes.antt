@@ -8,7 +8,7 @@ use lib.Dec.{eqb, ltb}
 use lib.IntN.{ℤ, pos}
 use lib.ListN.{length, getD}
 use Rattle.rows.specs.Rows.{pick, both, either, build, sumTo, countOf}
-use Rattle.protocol.specs.Ranges.{mark, tempMissing, pressMissing, tempRight, pressRight, flowMost, contentMost}
+use Rattle.protocol.specs.Ranges.{intervalsMost, mark, tempMissing, pressMissing, tempRight, pressRight, flowMost, contentMost}
 use Rattle.volume.specs.Volume.{methaneLitres}
 use Rattle.runs.specs.Runs.{excluding}
 use Rattle.outcomes.specs.declared.Entry.{Entry}
@@ -91,7 +91,7 @@ pub record Ready (flow content : ℕ) (temp : ℤ) (press flowHeld contentHeld :
   pub press-right : pressRight press ≡ true
 
 pub record ReadyAt (h : Held) (n : ℕ) : Type 0 where
-  pub few : n ≤ 35136
+  pub few : n ≤ intervalsMost
   pub flows : length (h .flow) ≡ n
   pub contents : length (h .content) ≡ n
   pub temps : length (h .temp) ≡ n
