@@ -1,0 +1,5 @@
+pub mod Field
+pub mod Plan
+pub mod Rows
+pub mod File
+pub mod Walk
