@@ -3,3 +3,4 @@ pub mod Plan
 pub mod Rows
 pub mod File
 pub mod Walk
+pub mod Worked
