@@ -1,1 +1,3 @@
 pub mod Walking
+pub mod Parts
+pub mod Longest
