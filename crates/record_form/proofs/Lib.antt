@@ -1,3 +1,4 @@
 pub mod Walking
 pub mod Parts
 pub mod Longest
+pub mod Cut

@@ -30,8 +30,6 @@ use Rattle.record_form.proofs.Parts.{
   part-all,
   deviceEntries,
   fromContentChecks,
-  fromFlowChecks,
-  fromFuels,
   fromMine,
   Head,
   head,
