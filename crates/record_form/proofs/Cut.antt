@@ -2,7 +2,7 @@
 -- every m above the length of the longest record. Assumes nothing.
 use Prim.Native.Nat.{ℕ, _+_, _*_, _≤_, _<_}
 use mathlib.Core.Path.{_≡_, sym, ap, _∙_, subst}
-use mathlib.Core.List.{List, [], _∷_, _++_, append-nil}
+use mathlib.Core.List.{List, [], _++_, append-nil}
 use native.Mathlib.Omega.{arith}
 use native.Mathlib.Nat.{le-trans}
 use lib.IntN.{pos}
@@ -10,9 +10,10 @@ use lib.ListN.{length, take, length-append, length-take}
 use lib.Seq.{take-all, take-length, take-take}
 use Rattle.record_form.specs.Field as Field
 use Rattle.record_form.specs.Field.{lineText}
-use Rattle.record_form.specs.Plan.{Line, lineIs, textOf}
-use Rattle.record_form.specs.File.{file, Record, IsRecord, Begins, Headed, Fine, FirstWrong}
-use Rattle.record_form.proofs.Longest.{line-widest, begins-longest}
+use Rattle.record_form.specs.Plan.{Line, textOf}
+use Rattle.record_form.specs.File.{file, Record, IsRecord, Begins, Headed, Limits, Fine, FirstWrong}
+use Rattle.record_form.proofs.Parts.{withHead}
+use Rattle.record_form.proofs.Longest.{line-widest, begins-headed, begins-longest}
 
 -- The text of a record begins with its lines.
 pub record-begins : (t : List ℕ) (ls : List Line) → Record ls → t ≡ textOf ls → Begins t ls
@@ -23,12 +24,16 @@ record-begins t ls h e =
       stands = record { within = omega (arith, ap length e); is = ap (take (length (textOf ls))) e ∙ take-length (textOf ls) };
     }
 
+-- Its N and D are in their limits where those of the text are.
+pub record-limits : (t : List ℕ) (room n d : ℕ) (ls : List Line) → Fine t room → Record (withHead n d ls) → t ≡ textOf (withHead n d ls) → Limits n d room
+record-limits t room n d ls fine h e = fine .limits n d (begins-headed t n d ls (record-begins t (withHead n d ls) h e))
+
 -- A record file with right N and D is no longer than the longest.
 pub record-fits : (t : List ℕ) (room : ℕ) (ls : List Line) → Fine t room → Record ls → t ≡ textOf ls → length t ≤ 61 * room + 35972
 record-fits t room ls fine h e = omega (arith, ap length e, begins-longest t room ls fine (record-begins t ls h e))
 
 -- The first two lines are short, whatever their numbers.
-headed-short : (t : List ℕ) (n d : ℕ) → Headed t n d → length (textOf (lineIs Field.intervals (pos n) ∷ lineIs Field.devices (pos d) ∷ [])) ≤ 40
+headed-short : (t : List ℕ) (n d : ℕ) → Headed t n d → length (textOf (withHead n d [])) ≤ 40
 unfolding file
 headed-short t n d b =
     omega (

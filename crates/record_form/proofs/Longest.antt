@@ -31,6 +31,7 @@ use Rattle.record_form.proofs.Parts.{
   deviceEntries,
   fromContentChecks,
   fromMine,
+  withHead,
   Head,
   head,
   after-head,
@@ -194,8 +195,8 @@ from-one : (most n : ℕ) → fromOne most n ≡ true → n ≤ most
 from-one most n e = leb-true n most (both-true (leb 1 n) (leb n most) e .1)
 
 -- A record whose N and D are in their limits is no longer than this.
-pub record-longest : (n d room : ℕ) (ls : List Line) → Record (lineIs Field.intervals (pos n) ∷ lineIs Field.devices (pos d) ∷ ls) → Limits n d room
-    → length (textOf (lineIs Field.intervals (pos n) ∷ lineIs Field.devices (pos d) ∷ ls)) ≤ 61 * room + 35972
+pub record-longest : (n d room : ℕ) (ls : List Line) → Record (withHead n d ls) → Limits n d room
+    → length (textOf (withHead n d ls)) ≤ 61 * room + 35972
 record-longest n d room ls h l =
     let a : List ℕ = lineText Field.intervals (pos n) in
     let b : List ℕ = lineText Field.devices (pos d) in
@@ -224,8 +225,8 @@ begins-less t xs ys b =
     }
 
 -- The first two lines of a beginning are the text's head.
-pub begins-headed : (t : List ℕ) (n d : ℕ) (ls : List Line) → Begins t (lineIs Field.intervals (pos n) ∷ lineIs Field.devices (pos d) ∷ ls) → Headed t n d
-begins-headed t n d ls b = begins-less t (lineIs Field.intervals (pos n) ∷ lineIs Field.devices (pos d) ∷ []) ls b
+pub begins-headed : (t : List ℕ) (n d : ℕ) (ls : List Line) → Begins t (withHead n d ls) → Headed t n d
+begins-headed t n d ls b = begins-less t (withHead n d []) ls b
 
 -- The first line alone.
 one-short : (l : Line) (more : List Line) → Record (l ∷ more) → length (textOf (l ∷ [])) ≤ 21
@@ -243,7 +244,7 @@ one-short l more h = by (l .field) (h .0) (h .1)
 
 begun-short : (t : List ℕ) (room : ℕ) (ls : List Line) → Fine t room → Begins t ls → Head ls → length (textOf ls) ≤ 61 * room + 35972
 begun-short t room ls fine b h =
-    let front : List Line = lineIs Field.intervals (pos (h .n)) ∷ lineIs Field.devices (pos (h .d)) ∷ [] in
+    let front : List Line = withHead (h .n) (h .d) [] in
     let all : Record (front ++ (h .rest ++ b .more)) = subst (λ (l : List Line). Record (l ++ b .more)) (h .is) (b .follows) in
     le-trans (text-grows ls (b .more))
     (subst (λ (l : List Line). length (textOf (l ++ b .more)) ≤ 61 * room + 35972) (sym (h .is))
