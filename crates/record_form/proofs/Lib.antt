@@ -4,3 +4,7 @@ pub mod Walking
 pub mod Following
 pub mod Files
 pub mod Found
+pub mod Parts
+pub mod Longest
+pub mod Cut
+pub mod Covered
