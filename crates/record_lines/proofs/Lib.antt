@@ -1,0 +1,3 @@
+pub mod Optional
+pub mod Widths
+pub mod Lines
