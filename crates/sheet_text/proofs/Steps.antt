@@ -9,9 +9,6 @@ use lib.IntN.{ℤ, pos, negsuc}
 use mir.Syntax.{w64}
 use mir.Val.{SFits, toZ, ofZ}
 use mir.ValLaws.{toZ-ofZ}
-use denote.Enum.Declared.{tagOf}
-use Rattle.text.proofs.Natural as NaturalType
-use Rattle.text.proofs.Whole as WholeType
 use Rattle.text.specs.declared.Natural.{Natural}
 use Rattle.text.specs.declared.Natural.the-variants as Natural
 use Rattle.text.specs.declared.Whole.{Whole}
@@ -251,6 +248,10 @@ module _ (f : Figures) (fit : InRange f) (i : ℕ) (h : i < 15) (old mid : List 
         schema-longest,
       )
 
+pub sheet-longest : (f : Figures) → InRange f → length (textOf f) ≤ 465
+unfolding textOf InRange
+sheet-longest f fit = omega (arith, lines-longest schema (valuesOf f) schema-wide fit, schema-longest)
+
 pub put-none : (f : Figures) (old : List ℕ) → Put old 0 (linesOf (take 0 schema) (take 0 (valuesOf f))) old 0
 put-none f old = record { stops = refl; is = refl }
 
@@ -283,24 +284,17 @@ put-done f old mid new n m same size room a =
       part = sym (length-take-le m new (omega (arith, a .stops, ap length (a .is), length-sets mid 0 (textOf f))));
     }
 
-pub put-short : (f : Figures) (old mid : List ℕ) (n : ℕ) → mid ≡ old → n ≡ 0 + length (textOf f) → length mid < n → Short f old mid (WriteAnswer.TooShort n)
-put-short f old mid n same size short = record {
+pub put-short : (f : Figures) (old mid : List ℕ) (n : ℕ) → mid ≡ old → n ≡ 0 + length (textOf f) → length mid < n → length (textOf f) ≤ 465 → Short f old mid (WriteAnswer.TooShort n)
+put-short f old mid n same size short most = record {
   number = refl;
   device = refl;
   place = omega (arith, size);
   short = omega (arith, ap length same);
+  most = omega (arith, size, most);
   is = same;
 }
 
--- ---- an answer whose case is known
-
-pub natural-wrong : (f : Form ℤ) (t : List ℕ) (i k : ℕ) (a : Natural) → tagOf NaturalType.the-type a ≡ 1 → k ≡ wrongAt a → NaturalIn f t i a → Broken (Of f) t i k
-natural-wrong f t i k (Natural.Value v stop) tag e p = absurd (omega (arith, tag))
-natural-wrong f t i k (Natural.Wrong j) tag e p = subst (Broken (Of f) t i) (sym e) p
-
-pub whole-wrong : (f : Form ℤ) (t : List ℕ) (i k : ℕ) (a : Whole) → tagOf WholeType.the-type a ≡ 1 → k ≡ wholeWrongAt a → WholeIn f t i a → Broken (Of f) t i k
-whole-wrong f t i k (Whole.Value z stop) tag e p = absurd (omega (arith, tag))
-whole-wrong f t i k (Whole.Wrong j) tag e p = subst (Broken (Of f) t i) (sym e) p
+-- ---- what the readers of lines are asked
 
 pub asked : (t : List ℕ) (p : ℕ) → p ≤ length t → Asked t p 0 18446744073709551615 10
 asked t p h = record { within = h; low = omega arith; range = omega arith; stop = omega arith }

@@ -1,8 +1,9 @@
 -- What writing a sheet answers, and what the answer and the buffer mean.
 use Prim.Native.Nat.{ℕ, _≤_, _<_}
 use mathlib.Core.Path.{_≡_}
-use mathlib.Core.List.{List, _++_}
-use lib.ListN.{length, take, drop}
+use mathlib.Core.List.{List}
+use lib.ListN.{length}
+use Rattle.text.specs.Answer.{Leads}
 use Rattle.figures.specs.declared.Figures.{Figures}
 use Rattle.sheet_text.specs.declared.WriteAnswer.{WriteAnswer}
 use Rattle.sheet_text.specs.declared.WriteAnswer.the-variants as WriteAnswer
@@ -20,18 +21,17 @@ abbrev pub placeOf : WriteAnswer → ℕ
 placeOf (WriteAnswer.Written n) = 0
 placeOf (WriteAnswer.TooShort n) = n
 
--- The sheet stands at the buffer's start, and no byte after its end changes. `part` says that n is the length of that part.
-pub record Done (f : Figures) (old new : List ℕ) (n : ℕ) : Type 0 where
-  pub size : n ≡ length (textOf f)
-  pub room : n ≤ length old
-  pub is : new ≡ textOf f ++ drop n old
-  pub part : n ≡ length (take n new)
+-- "a written sheet changes no byte after its end"
+abbrev pub Done : Figures → List ℕ → List ℕ → ℕ → Type 0
+Done f = Leads (textOf f)
 
+-- No sheet is longer than 465 bytes, so a buffer of 465 is never too short.
 pub record Short (f : Figures) (old new : List ℕ) (a : WriteAnswer) : Type 0 where
   pub number : numberOf a ≡ 11
   pub device : deviceOf a ≡ 0
   pub place : placeOf a ≡ length (textOf f)
   pub short : length old < placeOf a
+  pub most : placeOf a ≤ 465
   pub is : new ≡ old
 
 abbrev pub WriteRight : Figures → List ℕ → List ℕ → WriteAnswer → Type 0

@@ -2,7 +2,9 @@
 use figures::Figures;
 use text::Natural;
 use text::Whole;
+ghost use Prim.Native.Nat.{_≤_};
 ghost use mathlib.Core.Path.{_≡_};
+ghost use lib.ListN.{length};
 ghost use Rattle.text.specs.Answer.{Put};
 ghost use Rattle.sheet_text.specs.Sheet.{textOf};
 ghost use Rattle.sheet_text.specs.Read as Read;
@@ -89,7 +91,7 @@ impl WriteAnswer {
 
 // The sheet's lines into the buffer as far as it goes, and their length whatever the buffer's.
 fn put_sheet(f: Figures, buf: &mut [u8]) -> usize
-    ensures { λ r. ⌜ Put (now (buf .entry)) 0 (textOf f) (now (buf .exit)) r ⌝ }
+    ensures { λ r. ⌜ Put (now (buf .entry)) 0 (textOf f) (now (buf .exit)) r × (length (textOf f) ≤ 465) ⌝ }
 {
     let p1 = text::put_line(buf, 0, b"intervals=", f.intervals);
     let p2 = text::put_line(buf, p1, b"devices=", f.devices);

@@ -2,7 +2,11 @@
 use Prim.Native.Nat.{ℕ, _+_, _≤_}
 use mathlib.Core.List.{List}
 use lib.ListN.{length}
-use mathlib.Core.Path.{_≡_, subst}
+use mathlib.Core.Path.{_≡_, sym, subst}
+use native.Mathlib.Omega.{arith}
+use denote.Enum.Declared.{tagOf}
+use Rattle.text.proofs.Natural as NaturalType
+use Rattle.text.proofs.Whole as WholeType
 use lib.IntN.{ℤ, pos}
 use Rattle.text.specs.declared.Natural.{Natural}
 use Rattle.text.specs.declared.Natural.the-variants as Natural
@@ -11,7 +15,7 @@ use Rattle.text.specs.declared.Whole.the-variants as Whole
 use Rattle.text.specs.Form.{Form, Of, ReadAs, Broken}
 use Rattle.text.specs.Decimal.{Range, number}
 use Rattle.text.specs.Line.{line}
-use Rattle.text.specs.Answer.{NaturalIn, WholeIn, Matched}
+use Rattle.text.specs.Answer.{NaturalIn, WholeIn, wrongAt, wholeWrongAt, Matched}
 use Rattle.text.proofs.Numbers.{line-read, line-broken}
 
 -- What an answer says once its case is known.
@@ -27,6 +31,15 @@ module _ (f : Form ℤ) (t : List ℕ) (i : ℕ) where
 
   pub whole-broken : (a : Whole) (k : ℕ) → a ≡ Whole.Wrong k → WholeIn f t i a → Broken (Of f) t i k
   whole-broken a k e p = subst (WholeIn f t i) e p
+
+  -- The same of an answer that is only known to be wrong, by its `wrong_at`.
+  pub natural-wrong : (k : ℕ) (a : Natural) → tagOf NaturalType.the-type a ≡ 1 → k ≡ wrongAt a → NaturalIn f t i a → Broken (Of f) t i k
+  natural-wrong k (Natural.Value v stop) tag e p = absurd (omega (arith, tag))
+  natural-wrong k (Natural.Wrong j) tag e p = subst (Broken (Of f) t i) (sym e) p
+
+  pub whole-wrong : (k : ℕ) (a : Whole) → tagOf WholeType.the-type a ≡ 1 → k ≡ wholeWrongAt a → WholeIn f t i a → Broken (Of f) t i k
+  whole-wrong k (Whole.Value z stop) tag e p = absurd (omega (arith, tag))
+  whole-wrong k (Whole.Wrong j) tag e p = subst (Broken (Of f) t i) (sym e) p
 
 module _ (t : List ℕ) (i n : ℕ) (key : List ℕ) (r : Range) (m : Matched t i key n) (h : length key ≤ n) where
   pub line-natural : (a : Natural) → NaturalIn (number r 10) t (i + n) a → NaturalIn (line key r) t i a

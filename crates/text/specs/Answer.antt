@@ -2,7 +2,7 @@
 use Prim.Native.Nat.{ℕ, _+_, _^_, _≤_, _<_}
 use mathlib.Core.Path.{_≡_}
 use mathlib.Core.List.{List, [], _∷_, _++_}
-use lib.ListN.{length, take, getD}
+use lib.ListN.{length, take, drop, getD}
 use lib.Seq.{sets}
 use lib.IntN.{ℤ, pos}
 use Rattle.text.specs.declared.Natural.{Natural}
@@ -40,6 +40,13 @@ pub record Matched (t : List ℕ) (start : ℕ) (key : List ℕ) (n : ℕ) : Typ
 pub record Put (old : List ℕ) (start : ℕ) (w new : List ℕ) (stop : ℕ) : Type 0 where
   pub stops : stop ≡ start + length w
   pub is : new ≡ sets old start w
+
+-- w stands at the buffer's start, and no byte after its end has changed. `part` says that n is the length of that part.
+pub record Leads (w old new : List ℕ) (n : ℕ) : Type 0 where
+  pub size : n ≡ length w
+  pub room : n ≤ length old
+  pub is : new ≡ w ++ drop n old
+  pub part : n ≡ length (take n new)
 
 -- r is the value of the digit b, or 10 if b is none.
 pub record DigitOf (b r : ℕ) : Type 0 where

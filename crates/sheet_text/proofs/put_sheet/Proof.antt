@@ -13,7 +13,7 @@ use mir.ValLaws.{toZ-ofZ}
 use Rattle.text.specs.Line.{linesOf, lineOf}
 use Rattle.text.specs.Answer.{Put}
 use Rattle.sheet_text.specs.Sheet.{InRange, schema, valuesOf}
-use Rattle.sheet_text.proofs.Steps.{signed-fit, put-step, put-room, put-none, put-all, entryAt}
+use Rattle.sheet_text.proofs.Steps.{signed-fit, put-step, put-room, put-none, put-all, sheet-longest, entryAt}
 use Rattle.sheet_text.proofs.put_sheet.Statement.{statement}
 use Rattle.sheet_text.proofs.put_sheet.Tie as tie
 
@@ -302,7 +302,7 @@ same-length c = ap length (fact15 ((c .before .before)) .is) ∙ simp length-set
 returns : tie.Need-returns
 returns c =
     let s = c .before .before .before .before .before .before .before .before .before .before .before .before .before .before .before .before .before .before .before .before .before .before .before .before .before .before .before .before .before .before .before .before .before .before .before .before .before .before .before .before .before .before .before .before .before .before .before .before .before .before .before .before .before .before .before .before .before .before .before .before .before .before .before .before .before .before .before .before .before .before .before .before .before .before .before .before .before .before in
-    put-all (s .args .f) (now (s .args .buf)) (c .before .before .put-line13 .last .0) (c .before .before .put-line13 .result) (fact15 ((c .before .before)))
+    (put-all (s .args .f) (now (s .args .buf)) (c .before .before .put-line13 .last .0) (c .before .before .put-line13 .result) (fact15 ((c .before .before))), sheet-longest (s .args .f) (in-range s))
 
 pub put-sheet-spec : {M : Type 1} → statement M
 put-sheet-spec =

@@ -11,9 +11,9 @@ use Rattle.text.specs.Decimal.{Fit}
 use Rattle.text.specs.Form.{ReadAs}
 use Rattle.text.specs.Line.{line, lines}
 use Rattle.text.proofs.Tables.{lines-none}
-use Rattle.text.proofs.Lines.{natural-read, whole-read}
+use Rattle.text.proofs.Lines.{natural-read, whole-read, natural-wrong, whole-wrong}
 use Rattle.sheet_text.specs.Sheet.{schema, valuesOf, signed64}
-use Rattle.sheet_text.proofs.Steps.{entryAt, read-step, read-refused, read-past, read-all, natural-wrong, whole-wrong, asked, asked-signed, signed-back}
+use Rattle.sheet_text.proofs.Steps.{entryAt, read-step, read-refused, read-past, read-all, asked, asked-signed, signed-back}
 use borrow.Author.Needs.{needs}
 use Rattle.sheet_text.proofs.read.Statement.{statement}
 use Rattle.sheet_text.proofs.read.Tie as tie

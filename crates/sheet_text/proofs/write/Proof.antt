@@ -25,7 +25,7 @@ same-length c = search needs
 returns : tie.Need-returns
 returns c =
     put-short (c .before .before .before .before .before .before .args .f) (now (c .before .before .before .before .before .before .args .buf)) (c .before .before .before .put-sheet .last .1 .0 ++ now (c .before .before .before .before .before .before .args .buf)) (c .before .before .before .put-sheet .result)
-    (ap (λ (x : List ℕ). x ++ now (c .before .before .before .before .before .before .args .buf)) (nothing (c .before .before .before .put-sheet .last .1 .0) (textOf (c .before .before .before .before .before .before .args .f)) (c .before .before .before .put-sheet .ensures .is))) (c .before .before .before .put-sheet .ensures .stops) (omega (arith, c .if1 .taken))
+    (ap (λ (x : List ℕ). x ++ now (c .before .before .before .before .before .before .args .buf)) (nothing (c .before .before .before .put-sheet .last .1 .0) (textOf (c .before .before .before .before .before .before .args .f)) (c .before .before .before .put-sheet .ensures .0 .is))) (c .before .before .before .put-sheet .ensures .0 .stops) (omega (arith, c .if1 .taken)) (c .before .before .before .put-sheet .ensures .1)
 
 put-sheet-requires-2 : tie.Need-put-sheet-requires-2
 put-sheet-requires-2 c κs = search needs
@@ -36,7 +36,7 @@ same-length-2 c = search needs
 returns-2 : tie.Need-returns-2
 returns-2 c =
     put-done (c .before .before .before .before .before .before .before .before .before .before .args .f) (now (c .before .before .before .before .before .before .before .before .before .before .args .buf)) (c .before .before .before .before .before .before .before .put-sheet .last .1 .0 ++ now (c .before .before .before .before .before .before .before .before .before .before .args .buf)) (c .before .before .put-sheet2 .last .1 .0) (c .before .before .before .before .before .before .before .put-sheet .result) (c .before .before .put-sheet2 .result)
-    (ap (λ (x : List ℕ). x ++ now (c .before .before .before .before .before .before .before .before .before .before .args .buf)) (nothing (c .before .before .before .before .before .before .before .put-sheet .last .1 .0) (textOf (c .before .before .before .before .before .before .before .before .before .before .args .f)) (c .before .before .before .before .before .before .before .put-sheet .ensures .is))) (c .before .before .before .before .before .before .before .put-sheet .ensures .stops) (omega (arith, c .before .before .before .before .if1 .left)) (c .before .before .put-sheet2 .ensures)
+    (ap (λ (x : List ℕ). x ++ now (c .before .before .before .before .before .before .before .before .before .before .args .buf)) (nothing (c .before .before .before .before .before .before .before .put-sheet .last .1 .0) (textOf (c .before .before .before .before .before .before .before .before .before .before .args .f)) (c .before .before .before .before .before .before .before .put-sheet .ensures .0 .is))) (c .before .before .before .before .before .before .before .put-sheet .ensures .0 .stops) (omega (arith, c .before .before .before .before .if1 .left)) (c .before .before .put-sheet2 .ensures .0)
 
 pub write-spec : {M : Type 1} → statement M
 write-spec =
