@@ -1,0 +1,2 @@
+pub mod Quantified
+pub mod Report

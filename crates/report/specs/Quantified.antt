@@ -1,0 +1,89 @@
+-- The call that a record makes, and what comes of it.
+-- Assumes nothing.
+use Prim.Native.Nat.{ℕ, _*_, _≤_}
+use mathlib.Core.Path.{_≡_}
+use mathlib.Core.List.{List, _++_}
+use lib.ListN.{length, take, drop}
+use Rattle.protocol.specs.Ranges.{intervalsMost, devicesMost}
+use Rattle.checks.specs.Call.{Call}
+use Rattle.checks.specs.Steps.{judged}
+use Rattle.devices.specs.Devices as Devices
+use Rattle.quantify.specs.Promise.{answerBy, rowsBy}
+use Rattle.quantify.specs.declared.Answer.{Answer}
+use Rattle.record_form.specs.Rows.{Rows, lesser}
+use Rattle.record.specs.declared.Header.{Header}
+
+-- A result row's part that is lent to quantification: as long as N and D ask, or the whole row where it is shorter.
+abbrev pub partOf : ℕ → List ℕ → ℕ
+partOf m row = lesser (length row) m
+
+abbrev pub partsOf : ℕ → Devices.Rows → Devices.Rows
+partsOf m r =
+    record {
+      outcome = take (partOf m (r .outcome)) (r .outcome);
+      flow = take (partOf m (r .flow)) (r .flow);
+      content = take (partOf m (r .content)) (r .content);
+    }
+
+-- what is left in the result rows, of parts that quantification has left so
+abbrev pub putBack : ℕ → Devices.Rows → Devices.Rows → Devices.Rows
+putBack m r parts =
+    record {
+      outcome = parts .outcome ++ drop (partOf m (r .outcome)) (r .outcome);
+      flow = parts .flow ++ drop (partOf m (r .flow)) (r .flow);
+      content = parts .content ++ drop (partOf m (r .content)) (r .content);
+    }
+
+-- A record's call: its head's numbers and the first entries of each row, as many as N, D and the fuel lines ask.
+unfoldable pub callOf : Header → Rows → Devices.Rows → Call
+callOf h r results =
+    let d : ℕ = h .devices in
+    let m : ℕ = d * h .intervals in
+    record {
+      intervals = h .intervals;
+      devices = d;
+      mine = h .mine;
+      kinds = take d (r .kinds);
+      counts = take (2 * d) (r .counts);
+      places = take (64 * d) (r .places);
+      drifts = take (64 * d) (r .drifts);
+      flow = take m (r .flow);
+      content = take m (r .content);
+      temp = take m (r .temp);
+      press = take m (r .press);
+      status = take m (r .status);
+      quantity = take (h .fuels) (r .quantity);
+      factor = take (h .fuels) (r .factor);
+      outcome-length = partOf m (results .outcome);
+      flow-row-length = partOf m (results .flow);
+      content-row-length = partOf m (results .content);
+    }
+
+-- Document 01's answer to that call, and the result rows after it.
+unfoldable pub answerTo : Header → Rows → Devices.Rows → Answer
+answerTo h r results = answerBy (judged (callOf h r results)) (callOf h r results)
+
+unfoldable pub resultsAfter : Header → Rows → Devices.Rows → Devices.Rows
+resultsAfter h r results =
+    putBack (h .devices * h .intervals) results
+    (rowsBy (judged (callOf h r results)) (callOf h r results) (partsOf (h .devices * h .intervals) results))
+
+-- The rows hold as many entries as the head asks for.
+pub record Ready (h : Header) (r : Rows) : Type 0 where
+  pub few : h .intervals ≤ intervalsMost
+  pub few-devices : h .devices ≤ devicesMost
+  pub quantity-room : h .fuels ≤ length (r .quantity)
+  pub factor-room : h .fuels ≤ length (r .factor)
+  pub kinds-room : h .devices ≤ length (r .kinds)
+  pub counts-room : 2 * h .devices ≤ length (r .counts)
+  pub places-room : 64 * h .devices ≤ length (r .places)
+  pub drifts-room : 64 * h .devices ≤ length (r .drifts)
+  pub flow-room : h .devices * h .intervals ≤ length (r .flow)
+  pub content-room : h .devices * h .intervals ≤ length (r .content)
+  pub temp-room : h .devices * h .intervals ≤ length (r .temp)
+  pub press-room : h .devices * h .intervals ≤ length (r .press)
+  pub status-room : h .devices * h .intervals ≤ length (r .status)
+
+pub record Quantified (h : Header) (r : Rows) (before after : Devices.Rows) (a : Answer) : Type 0 where
+  pub answer : a ≡ answerTo h r before
+  pub results : after ≡ resultsAfter h r before

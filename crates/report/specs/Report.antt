@@ -1,0 +1,108 @@
+-- What is printed for a text, for every text.
+-- Assumes nothing.
+use Prim.Native.Nat.{ℕ}
+use mathlib.Core.Path.{_≡_}
+use mathlib.Core.List.{List, _++_}
+use lib.IntN.{ℤ, pos}
+use lib.ListN.{length, replicate}
+use Rattle.text.specs.Bytes.{bytes}
+use Rattle.text.specs.Line.{lineOf}
+use Rattle.text.specs.Answer.{Leads}
+use Rattle.sheet_text.specs.Sheet.{textOf}
+use Rattle.checks.specs.Steps as Steps
+use Rattle.devices.specs.Devices as Devices
+use Rattle.quantify.specs.declared.Answer.{Answer}
+use Rattle.quantify.specs.declared.Answer.the-variants as Answer
+use Rattle.record_form.specs.Rows.{Rows}
+use Rattle.record.specs.Read as Read
+use Rattle.record.specs.Read.{ReadRight}
+use Rattle.record.specs.declared.ReadAnswer.{ReadAnswer}
+use Rattle.record.specs.declared.ReadAnswer.the-variants as ReadAnswer
+use Rattle.report.specs.Quantified.{answerTo, resultsAfter}
+
+-- "On refusal it prints three key=value lines, refusal, device and place"
+unfoldable pub refusalText : ℕ → ℕ → ℕ → List ℕ
+refusalText number device place =
+    lineOf (bytes "refusal=") (pos number) ++ (lineOf (bytes "device=") (pos device) ++ lineOf (bytes "place=") (pos place))
+
+-- The text of an answer: the sheet, or the refusal.
+abbrev pub printed : Answer → List ℕ
+printed (Answer.Accepted f) = textOf f
+printed (Answer.Refused r) = refusalText (Steps.numberOf r) (Steps.deviceOf r) (Steps.placeOf r)
+
+-- What the caller lends: five series for the record and three result rows.
+pub record Lent : Type 0 where
+  pub flow : List ℕ
+  pub content : List ℕ
+  pub temp : List ℤ
+  pub press : List ℕ
+  pub status : List ℕ
+  pub results : Devices.Rows
+
+-- the record's reader has those series, and rows of zeros for the rest
+unfoldable pub readerRows : Lent → Rows
+readerRows l =
+    record {
+      quantity = replicate 64 0;
+      factor = replicate 64 0;
+      kinds = replicate 16 0;
+      counts = replicate 32 0;
+      places = replicate 1024 0;
+      drifts = replicate 1024 (pos 0);
+      flow = l .flow;
+      content = l .content;
+      temp = l .temp;
+      press = l .press;
+      status = l .status;
+    }
+
+-- What is printed: the reader's refusal, or what quantification answers to the record.
+abbrev pub outputOf : ReadAnswer → Rows → Lent → List ℕ
+outputOf (ReadAnswer.Record h) rows l = printed (answerTo h rows (l .results))
+outputOf ReadAnswer.Intervals rows l = refusalText 1 0 0
+outputOf ReadAnswer.Devices rows l = refusalText 2 0 0
+outputOf ReadAnswer.Room rows l = refusalText 13 0 0
+outputOf (ReadAnswer.Line k) rows l = refusalText 12 0 k
+
+abbrev pub resultsOf : ReadAnswer → Rows → Lent → Devices.Rows
+resultsOf (ReadAnswer.Record h) rows l = resultsAfter h rows (l .results)
+resultsOf ReadAnswer.Intervals rows l = l .results
+resultsOf ReadAnswer.Devices rows l = l .results
+resultsOf ReadAnswer.Room rows l = l .results
+resultsOf (ReadAnswer.Line k) rows l = l .results
+
+-- two that lend rows of the same lengths
+pub record AsLong (l k : Lent) : Type 0 where
+  pub flow : length (l .flow) ≡ length (k .flow)
+  pub content : length (l .content) ≡ length (k .content)
+  pub temp : length (l .temp) ≡ length (k .temp)
+  pub press : length (l .press) ≡ length (k .press)
+  pub status : length (l .status) ≡ length (k .status)
+  pub outcome : length (l .results .outcome) ≡ length (k .results .outcome)
+  pub flow-used : length (l .results .flow) ≡ length (k .results .flow)
+  pub content-used : length (l .results .content) ≡ length (k .results .content)
+
+-- Of whoever lends rows of these lengths, whatever stands in them, this is the output.
+pub record Whatever (t : List ℕ) (l : Lent) (w : List ℕ) : Type 0 where
+  pub answer : ReadAnswer
+  pub rows : Rows
+  pub read : ReadRight t (readerRows l) rows answer
+  pub output : w ≡ outputOf answer rows l
+
+-- The whole job: the text is read as ReadRight says, the output of what was read stands at the buffer's start, nothing else there
+-- has changed, and every lent row holds what reading and quantification leave in it.
+pub record Reported (t : List ℕ) (before after : Lent) (old new : List ℕ) (n : ℕ) : Type 0 where
+  pub answer : ReadAnswer
+  pub rows : Rows
+  pub read : ReadRight t (readerRows before) rows answer
+  pub written : Leads (outputOf answer rows before) old new n
+  pub lent : after
+      ≡ record {
+        flow = rows .flow;
+        content = rows .content;
+        temp = rows .temp;
+        press = rows .press;
+        status = rows .status;
+        results = resultsOf answer rows before;
+      }
+  pub whatever : (other : Lent) → AsLong other before → Whatever t other (outputOf answer rows before)
