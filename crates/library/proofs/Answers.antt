@@ -1,0 +1,40 @@
+-- What the host's arrays hold after an answer, by its case. Assumes nothing.
+use Prim.Native.Nat.{ℕ}
+use mathlib.Core.Path.{_≡_, refl, sym, ap, _∙_, subst}
+use mathlib.Core.List.{List}
+use native.Mathlib.Omega.{arith}
+use denote.Enum.Declared.{tagOf}
+use Rattle.figures.specs.declared.Figures.{Figures}
+use Rattle.quantify.specs.declared.Answer.{Answer}
+use Rattle.quantify.specs.declared.Answer.the-variants as Answer
+use Rattle.quantify.proofs.Answer as AnswerType
+use Rattle.sheet_text.specs.Write.{WriteRight}
+use Rattle.sheet_text.specs.declared.WriteAnswer.{WriteAnswer}
+use Rattle.sheet_text.specs.declared.ReadAnswer.{ReadAnswer}
+use Rattle.sheet_text.specs.declared.ReadAnswer.the-variants as ReadAnswer
+use Rattle.sheet_text.proofs.ReadAnswer as ReadAnswerType
+use Rattle.library.specs.Figures.{amountsOf, balancesOf}
+use Rattle.library.specs.Exported.{Held, given, heldAfter, heldOf}
+
+-- what is given is the figures' arrays
+both-given : (f : Figures) (new : Held) → (new .amounts ≡ amountsOf f) × (new .balances ≡ balancesOf f) → new ≡ given f
+both-given f new w = λ i. record { amounts = w .0 i; balances = w .1 i }
+
+pub accepted-held : (a : Answer) (f : Figures) (old new : Held) → a ≡ Answer.Accepted f
+    → (new .amounts ≡ amountsOf f) × (new .balances ≡ balancesOf f) → new ≡ heldAfter a old
+accepted-held a f old new is w = both-given f new w ∙ sym (ap (λ (x : Answer). heldAfter x old) is)
+
+pub refused-held : (a : Answer) (old : Held) → tagOf AnswerType.the-type a ≡ 1 → old ≡ heldAfter a old
+refused-held (Answer.Accepted f) old tag = absurd (omega (arith, tag))
+refused-held (Answer.Refused r) old tag = refl
+
+pub sheet-held : (a : ReadAnswer) (f : Figures) (old new : Held) → a ≡ ReadAnswer.Sheet f
+    → (new .amounts ≡ amountsOf f) × (new .balances ≡ balancesOf f) → new ≡ heldOf a old
+sheet-held a f old new is w = both-given f new w ∙ sym (ap (λ (x : ReadAnswer). heldOf x old) is)
+
+pub no-sheet-held : (a : ReadAnswer) (old : Held) → tagOf ReadAnswerType.the-type a ≡ 1 → old ≡ heldOf a old
+no-sheet-held (ReadAnswer.Sheet f) old tag = absurd (omega (arith, tag))
+no-sheet-held (ReadAnswer.NoSheet k) old tag = refl
+
+pub same-written : (f g : Figures) (old new : List ℕ) (a : WriteAnswer) → f ≡ g → WriteRight f old new a → WriteRight g old new a
+same-written f g old new a e w = subst (λ (h : Figures). WriteRight h old new a) e w
