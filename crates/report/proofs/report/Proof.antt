@@ -1,0 +1,162 @@
+use borrow.Author.Needs.{needs}
+use Rattle.report.proofs.report.Statement.{statement}
+use Rattle.report.proofs.report.Tie as tie
+use Rattle.report.proofs.report.Reads as reads
+use Rattle.report.proofs.report.Lts as lts
+use Rattle.record.proofs.ReadAnswer.device.Reads as device-reads
+use Rattle.record.proofs.ReadAnswer.number.Reads as number-reads
+use Rattle.record.proofs.ReadAnswer.place.Reads as place-reads
+use Rattle.record.proofs.read.Reads as read-reads
+use Rattle.report.proofs.put_answer.Reads as put-answer-reads
+use Rattle.report.proofs.put_refusal.Reads as put-refusal-reads
+use Rattle.report.proofs.quantified.Reads as quantified-reads
+
+-- src/lib.rt:155:9
+read-requires : tie.Need-read-requires
+read-requires c κs = ?
+
+-- src/lib.rt:169:28
+enum-known-a : tie.Need-enum-known-a
+enum-known-a c = ?
+
+-- src/lib.rt:170:33
+number-requires : tie.Need-number-requires
+number-requires c κs = ?
+
+-- src/lib.rt:170:45
+device-requires : tie.Need-device-requires
+device-requires c κs = ?
+
+-- src/lib.rt:170:57
+place-requires : tie.Need-place-requires
+place-requires c κs = ?
+
+-- src/lib.rt:170:9
+put-refusal-requires : tie.Need-put-refusal-requires
+put-refusal-requires c κs = ?
+
+-- src/lib.rt:170:9
+same-length : tie.Need-same-length
+same-length c = ?
+
+-- src/lib.rt:170:9
+same-length-2 : tie.Need-same-length-2
+same-length-2 c = ?
+
+-- src/lib.rt:170:9
+same-length-3 : tie.Need-same-length-3
+same-length-3 c = ?
+
+-- src/lib.rt:170:9
+same-length-4 : tie.Need-same-length-4
+same-length-4 c = ?
+
+-- src/lib.rt:170:9
+same-length-5 : tie.Need-same-length-5
+same-length-5 c = ?
+
+-- src/lib.rt:170:9
+returns : tie.Need-returns
+returns c = ?
+
+-- src/lib.rt:174:9
+slice-aggregate-quantified : tie.Need-slice-aggregate-quantified
+slice-aggregate-quantified c = ?
+
+-- src/lib.rt:175:9
+slice-aggregate-quantified-2 : tie.Need-slice-aggregate-quantified-2
+slice-aggregate-quantified-2 c = ?
+
+-- src/lib.rt:176:9
+slice-aggregate-quantified-3 : tie.Need-slice-aggregate-quantified-3
+slice-aggregate-quantified-3 c = ?
+
+-- src/lib.rt:177:9
+slice-aggregate-quantified-4 : tie.Need-slice-aggregate-quantified-4
+slice-aggregate-quantified-4 c = ?
+
+-- src/lib.rt:178:9
+slice-aggregate-quantified-5 : tie.Need-slice-aggregate-quantified-5
+slice-aggregate-quantified-5 c = ?
+
+-- src/lib.rt:179:9
+slice-aggregate-quantified-6 : tie.Need-slice-aggregate-quantified-6
+slice-aggregate-quantified-6 c = ?
+
+-- src/lib.rt:172:9
+quantified-requires : tie.Need-quantified-requires
+quantified-requires c κs = ?
+
+-- src/lib.rt:189:5
+put-answer-requires : tie.Need-put-answer-requires
+put-answer-requires c κs = ?
+
+-- src/lib.rt:118:1
+same-length-6 : tie.Need-same-length-6
+same-length-6 c = ?
+
+-- src/lib.rt:118:1
+same-length-7 : tie.Need-same-length-7
+same-length-7 c = ?
+
+-- src/lib.rt:118:1
+same-length-8 : tie.Need-same-length-8
+same-length-8 c = ?
+
+-- src/lib.rt:118:1
+same-length-9 : tie.Need-same-length-9
+same-length-9 c = ?
+
+-- src/lib.rt:118:1
+same-length-10 : tie.Need-same-length-10
+same-length-10 c = ?
+
+-- src/lib.rt:118:1
+same-length-11 : tie.Need-same-length-11
+same-length-11 c = ?
+
+-- src/lib.rt:118:1
+same-length-12 : tie.Need-same-length-12
+same-length-12 c = ?
+
+-- src/lib.rt:118:1
+same-length-13 : tie.Need-same-length-13
+same-length-13 c = ?
+
+-- src/lib.rt:118:1
+returns-2 : tie.Need-returns-2
+returns-2 c = ?
+
+pub report-spec : {M : Type 1} → statement M
+report-spec =
+    tie.close
+    (tie.spec
+    read-requires
+    enum-known-a
+    number-requires
+    device-requires
+    place-requires
+    put-refusal-requires
+    same-length
+    same-length-2
+    same-length-3
+    same-length-4
+    same-length-5
+    returns
+    slice-aggregate-quantified
+    slice-aggregate-quantified-2
+    slice-aggregate-quantified-3
+    slice-aggregate-quantified-4
+    slice-aggregate-quantified-5
+    slice-aggregate-quantified-6
+    quantified-requires
+    put-answer-requires
+    same-length-6
+    same-length-7
+    same-length-8
+    same-length-9
+    same-length-10
+    same-length-11
+    same-length-12
+    same-length-13
+    returns-2)
