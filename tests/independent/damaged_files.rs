@@ -12,9 +12,31 @@ const KEYS: [&str; 16] = [
 
 /// Values of wrong form, of right form in unexpected places, and numbers that wrap to small ones in 8 to 128 bits.
 const VALUES: [&str; 25] = [
-    "", "0", "00", "01", "007", "+1", "-0", "-1", "-", "--1", " 1", "1 ", "1\r", "1.0", "1e3", "0x1", "1\0", "1=1",
-    "257", "65537", "4294967297", "18446744073709551617", "99999999999999999999",
-    "340282366920938463463374607431768211457", "\u{661}",
+    "",
+    "0",
+    "00",
+    "01",
+    "007",
+    "+1",
+    "-0",
+    "-1",
+    "-",
+    "--1",
+    " 1",
+    "1 ",
+    "1\r",
+    "1.0",
+    "1e3",
+    "0x1",
+    "1\0",
+    "1=1",
+    "257",
+    "65537",
+    "4294967297",
+    "18446744073709551617",
+    "99999999999999999999",
+    "340282366920938463463374607431768211457",
+    "\u{661}",
 ];
 
 /// Least and greatest number that a line's form allows, and a series' mark.
@@ -31,20 +53,19 @@ fn widths(key: &str) -> (i128, i128, Option<i128>) {
     }
 }
 
-/// One line's value replaced, for every key and every way.
+/// One line's value replaced, in turn by one about its width and by some other for every key.
 pub fn values(rng: &Rng, case: usize, _row: u64) -> Vec<u8> {
-    let key = KEYS[case % 16];
+    let key = KEYS[case / 2 % 16];
     let (low, high, mark) = widths(key);
-    let way = case / 16 % (VALUES.len() + 7);
-    let value = match way {
+    let value = match case % 2 * 7 + case / 32 % 7 {
         0 => (high + 1).to_string(),
-        1 => high.to_string(),
+        1 => mark.unwrap_or(high + 2).to_string(),
         2 => (low - 1).to_string(),
-        3 => low.to_string(),
-        4 => mark.unwrap_or(high + 2).to_string(),
-        5 => format!("0{}", rng.below(100)),
-        6 => (high - 1).to_string(),
-        _ => VALUES[way - 7].to_string(),
+        3 => high.to_string(),
+        4 => low.to_string(),
+        5 => (high - 1).to_string(),
+        6 => format!("0{}", rng.below(100)),
+        _ => rng.pick(&VALUES).to_string(),
     };
     let mut lines = base(rng, 4).lines();
     let head = format!("{key}=");
@@ -144,7 +165,7 @@ fn cut_in_line(rng: &Rng, lines: &[String], at: usize) -> Vec<u8> {
 
 pub fn junk(rng: &Rng, case: usize, _row: u64) -> Vec<u8> {
     let length = rng.size(1, 400);
-    match case % 12 {
+    match case % 13 {
         0 => vec![],
         1 => rng.bytes(length),
         2 => rng.bytes(1_000_000),
@@ -154,8 +175,11 @@ pub fn junk(rng: &Rng, case: usize, _row: u64) -> Vec<u8> {
         6 => vec![0; length],
         7 => [b"intervals=1\ndevices=1\n".to_vec(), rng.bytes(length)].concat(),
         8 => b"intervals=0\ndevices=1\nmine=0\nfuels=0\nkind=1\nflow_checks=0\nch4_checks=0\n".to_vec(),
-        9 => [b"intervals=0\n".to_vec(), rng.pick(&["", "devices", "devices=\n", "devices=-1\n", "x\n"]).into()].concat(),
-        10 => [b"intervals=2976\ndevices=1\nmine=0\nfuels=0\n".to_vec(), b"kind=1\n".repeat(length)].concat(),
+        9 => {
+            [b"intervals=0\n".to_vec(), rng.pick(&["", "devices", "devices=\n", "devices=-1\n", "x\n"]).into()].concat()
+        }
+        10 => [base(rng, 6).text(), rng.bytes(300_000)].concat(),
+        11 => [b"intervals=2976\ndevices=1\nmine=0\nfuels=0\n".to_vec(), b"kind=1\n".repeat(length)].concat(),
         _ => (0..length).map(|_| rng.pick(b"intervalsdc=0123456789-\n\n")).collect(),
     }
 }

@@ -111,10 +111,18 @@ pub fn cut(series: &mut [Option<u16>], start: usize, length: usize) {
 impl Device {
     /// Flow (0) or CH4 (1).
     pub fn series(&mut self, which: usize) -> &mut Vec<Option<u16>> {
-        if which == 0 { &mut self.flow } else { &mut self.ch4 }
+        if which == 0 {
+            &mut self.flow
+        } else {
+            &mut self.ch4
+        }
     }
 
     pub fn checks(&mut self, which: usize) -> &mut Vec<Check> {
-        if which == 0 { &mut self.flow_checks } else { &mut self.ch4_checks }
+        if which == 0 {
+            &mut self.flow_checks
+        } else {
+            &mut self.ch4_checks
+        }
     }
 }

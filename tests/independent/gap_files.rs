@@ -39,11 +39,10 @@ fn surroundings(rng: &Rng, case: usize, w: usize) -> (usize, usize) {
         0 => (w, w),
         1 => (w - 1, w),
         2 => (w, w - 1),
-        3 => (0, w + 3),
-        4 => (w + 3, 0),
-        5 => (w + 1, w + rng.size(1, 20)),
+        3 => (w, w + rng.size(0, 20)),
+        4 => (0, w + 3),
+        5 => (w + 3, rng.pick(&[0, 15])),
         6 => (15, 16),
-        7 => (w + 5, 15),
         _ => (rng.size(w, w + 40), rng.size(w, w + 40)),
     }
 }
@@ -51,13 +50,13 @@ fn surroundings(rng: &Rng, case: usize, w: usize) -> (usize, usize) {
 /// Gaps on both sides of every length's border, at every distance that matters from the row's ends.
 pub fn borders(rng: &Rng, case: usize, row: u64) -> Vec<u8> {
     let length = LENGTHS[case % 16];
-    let (before, after) = surroundings(rng, case / 16 % 9, window(length));
-    let which = rng.below(2);
-    let mut gap = one_gap(rng, row, which, before, length, after);
-    if rng.chance(3) {
+    let place = case / 16 % 9;
+    let (before, after) = surroundings(rng, place, window(length));
+    let mut gap = one_gap(rng, row, rng.below(2), before, length, after);
+    if place > 6 && rng.chance(2) {
         disturb(rng, &mut gap);
     }
-    if rng.chance(2) {
+    if rng.chance(3) {
         spoil_around(rng, &mut gap);
     }
     gap.record.text()
@@ -102,7 +101,8 @@ pub fn neighbours(rng: &Rng, case: usize, _row: u64) -> Vec<u8> {
     let (first, second) = (lengths[case % 8], rng.pick(&lengths));
     let w = [window(first), window(second)][case / 8 % 2];
     let between = rng.pick(&[w - 1, w, w + 1, 2 * w - 1, 2 * w, 2 * w + 1]);
-    let (before, after) = (window(first) + rng.below(3), window(second) + rng.below(3));
+    let widest = window(first.max(second));
+    let (before, after) = (widest + rng.below(3), widest + rng.below(3));
     let n = before + first + between + second + after;
     let mut record = draw::record(rng, n, 1);
     let (which, other) = (rng.below(2), rng.below(4));
@@ -149,7 +149,13 @@ fn window_row(rng: &Rng, style: usize, n: usize, w: usize, before: usize, max: u
 
 /// Field checks at every edge, on short records that show each corrected value.
 pub fn checks(rng: &Rng, case: usize, _row: u64) -> Vec<u8> {
-    let n = if case % 5 == 0 { rng.size(1, 3) } else { rng.size(4, 40) };
+    let n = if case % 8 == 5 {
+        rng.size(30, 34)
+    } else if case % 5 == 0 {
+        rng.size(1, 3)
+    } else {
+        rng.size(4, 40)
+    };
     let devices = rng.size(1, 2);
     let mut record = draw::record(rng, n, devices);
     for device in &mut record.devices {
@@ -196,7 +202,8 @@ pub fn drift_and_gaps(rng: &Rng, case: usize, row: u64) -> Vec<u8> {
     let which = rng.below(2);
     let mut gap = one_gap(rng, row, which, before, length, after);
     let (start, end, n) = (before, before + length, before + length + after);
-    let edges = [0, start - w, start - w + 1, start - 1, start, start + 1, end - 1, end, end + 1, end + w - 1, end + w, n];
+    let edges =
+        [0, start - w, start - w + 1, start - 1, start, start + 1, end - 1, end, end + 1, end + w - 1, end + w, n];
     let positions = (0..rng.size(1, 5)).map(|_| rng.pick(&edges)).collect();
     let device = &mut gap.record.devices[gap.device];
     *device.checks(which) = draw::checks_at(rng, positions);

@@ -90,5 +90,9 @@ pub fn lower_limit_by_root(values: &[u16], z2_hundredths: i128) -> u16 {
             low = middle + 1;
         }
     }
-    if sum < low { 0 } else { ((sum - low) / n) as u16 }
+    if sum < low {
+        0
+    } else {
+        ((sum - low) / n) as u16
+    }
 }

@@ -16,25 +16,26 @@ const fn class(name: &'static str, share: usize, make: Maker) -> Class {
     Class { name, share, make }
 }
 
-/// Of every 200 files each class gets its share.
-pub const CLASSES: [Class; 18] = [
-    class("small", 17, plain_files::small),
-    class("outcomes", 10, plain_files::outcomes),
+/// How many of each class come in turn. Most files are short, and so is the whole.
+pub const CLASSES: [Class; 19] = [
+    class("small", 14, plain_files::small),
+    class("outcomes", 8, plain_files::outcomes),
     class("month", 1, plain_files::month),
     class("several devices", 3, plain_files::several_devices),
     class("longest", 1, plain_files::longest),
     class("extremes", 7, plain_files::extremes),
-    class("tonne borders", 7, plain_files::tonne_borders),
-    class("gap borders", 20, gap_files::borders),
+    class("tonne borders", 5, plain_files::tonne_borders),
+    class("gap borders", 18, gap_files::borders),
     class("gap neighbours", 8, gap_files::neighbours),
     class("window values", 10, gap_files::window_values),
-    class("checks", 18, gap_files::checks),
+    class("checks", 16, gap_files::checks),
     class("drift and gaps", 8, gap_files::drift_and_gaps),
-    class("heads", 13, refusal_files::heads),
-    class("one offence", 11, refusal_files::one),
-    class("two offences", 10, refusal_files::two),
-    class("one wrong value", 33, damaged_files::values),
-    class("damaged text", 20, damaged_files::texts),
+    class("heads", 15, refusal_files::heads),
+    class("one offence", 14, refusal_files::one),
+    class("pairs of offences", 9, refusal_files::pairs),
+    class("rival offenders", 12, refusal_files::rivals),
+    class("one wrong value", 32, damaged_files::values),
+    class("damaged text", 16, damaged_files::texts),
     class("junk", 3, damaged_files::junk),
 ];
 

@@ -123,7 +123,12 @@ fn gap_borders(checks: &mut Checks) {
     checks.same("gap of 673", first(&with_gap(288, 673, 288, 288), 288), (8, 0, 0));
     checks.same("15 intervals from the end", first(&with_gap(40, 5, 15, 16), 40), (9, 0, 0));
     checks.same("16 intervals from the end", first(&with_gap(40, 5, 16, 16), 40), (1, 1_000, 10_000));
-    let next_row = Record { intervals: 60, mine: 0, fuels: vec![], devices: vec![with_gap(40, 5, 15, 16), with_gap(20, 5, 35, 16)] };
+    let next_row = Record {
+        intervals: 60,
+        mine: 0,
+        fuels: vec![],
+        devices: vec![with_gap(40, 5, 15, 16), with_gap(20, 5, 35, 16)],
+    };
     let rows = quantify(&next_row).unwrap().rows;
     checks.same("no window runs into the next row", (rows[0].outcome[40], rows[1].outcome[20]), (9, 1));
 }

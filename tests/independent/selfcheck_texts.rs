@@ -195,7 +195,9 @@ fn sheets(checks: &mut Checks) {
         checks.same(to, read_sheet(text.as_bytes()).err(), Some(at + within));
     }
     checks.same("the empty text", read_sheet(b""), Err(0));
-    for (from, to) in [("devices=1", "devices=99"), ("credits=35", "credits=0"), ("tonnes=35", "tonnes=-9223372036854775808")] {
+    for (from, to) in
+        [("devices=1", "devices=99"), ("credits=35", "credits=0"), ("tonnes=35", "tonnes=-9223372036854775808")]
+    {
         let text = EXAMPLE_SHEET.replacen(from, to, 1);
         checks.same(to, report::sheet_report(text.as_bytes()), text);
     }

@@ -40,27 +40,19 @@ pub const LINES: [(&str, bool); 15] = [
 
 /// Least and greatest number of a line.
 pub fn limits(signed: bool) -> (i128, i128) {
-    if signed { (i64::MIN as i128, i64::MAX as i128) } else { (0, u64::MAX as i128) }
+    if signed {
+        (i64::MIN as i128, i64::MAX as i128)
+    } else {
+        (0, u64::MAX as i128)
+    }
 }
 
 impl Figures {
     pub fn numbers(&self) -> [i128; 15] {
         [
-            self.intervals,
-            self.devices,
-            self.counted,
-            self.replaced,
-            self.excluded,
-            self.methane_l,
-            self.destroyed_l,
-            self.uncombusted_l,
-            self.baseline_mg,
-            self.co2_mg,
-            self.uncombusted_mg,
-            self.fuel_mg,
-            self.reduction_mg,
-            self.tonnes,
-            self.credits,
+            self.intervals, self.devices, self.counted, self.replaced, self.excluded, self.methane_l, self.destroyed_l,
+            self.uncombusted_l, self.baseline_mg, self.co2_mg, self.uncombusted_mg, self.fuel_mg, self.reduction_mg,
+            self.tonnes, self.credits,
         ]
     }
 }
@@ -82,7 +74,11 @@ pub fn read_sheet(text: &[u8]) -> Result<[i128; 15], usize> {
         }
         *number = read_number(text, &mut at, signed)?;
     }
-    if at < text.len() { Err(at) } else { Ok(numbers) }
+    if at < text.len() {
+        Err(at)
+    } else {
+        Ok(numbers)
+    }
 }
 
 /// A number up to and with its byte 10. Every digit must leave a number in range, and a zero stands alone.
