@@ -2,6 +2,7 @@
 
 use crate::answerer::Answerer;
 use crate::possible_text::{sheet_offset, wrong_line};
+use crate::protocol::{MOST_DEVICES, MOST_INTERVALS};
 use crate::quantify::Quantified;
 use crate::refusal::Refusal;
 use crate::{damaged_sheets, generate, report, sheet};
@@ -56,11 +57,13 @@ fn record_kinds(answer: &Result<Quantified, Refusal>) -> Vec<String> {
     kinds
 }
 
-/// Kinds of answer that any long run must meet.
-pub fn record_kinds_wanted() -> Vec<String> {
-    let refusals = [1, 2, 4, 5, 6, 7, 8, 9, 12, 13].map(|number| format!("refusal {number:2}"));
+/// Kinds of answer that any long run must meet. A row for the longest record leaves no room for 13.
+pub fn record_kinds_wanted(row: u64) -> Vec<String> {
+    let short_row = row < MOST_INTERVALS as u64 * MOST_DEVICES as u64;
+    let refusals = [1, 2, 4, 5, 6, 7, 8, 9, 12, 13].iter().filter(|&&number| number != 13 || short_row);
     let outcomes = (0..10).map(|outcome| format!("sheet, outcome {outcome}"));
-    refusals.into_iter().chain(outcomes).chain(["sheet, negative".to_string()]).collect()
+    let negative = "sheet, negative".to_string();
+    refusals.map(|number| format!("refusal {number:2}")).chain(outcomes).chain([negative]).collect()
 }
 
 pub fn ask_sheet(seed: u64, number: usize) -> Asked {

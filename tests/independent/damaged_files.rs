@@ -53,18 +53,19 @@ fn widths(key: &str) -> (i128, i128, Option<i128>) {
     }
 }
 
-/// One line's value replaced, in turn by one about its width and by some other for every key.
+/// One line's value replaced, for every key: in turn by one about its width, and by some other.
 pub fn values(rng: &Rng, case: usize, _row: u64) -> Vec<u8> {
     let key = KEYS[case / 2 % 16];
     let (low, high, mark) = widths(key);
-    let value = match case % 2 * 7 + case / 32 % 7 {
+    let value = match case % 2 * 8 + case / 32 % 8 {
         0 => (high + 1).to_string(),
         1 => mark.unwrap_or(high + 2).to_string(),
         2 => (low - 1).to_string(),
         3 => high.to_string(),
         4 => low.to_string(),
         5 => (high - 1).to_string(),
-        6 => format!("0{}", rng.below(100)),
+        6 => String::new(),
+        7 => format!("0{}", rng.below(100)),
         _ => rng.pick(&VALUES).to_string(),
     };
     let mut lines = base(rng, 4).lines();
@@ -84,8 +85,7 @@ fn base(rng: &Rng, most: usize) -> Record {
     }
     for device in &mut record.devices {
         for which in 0..2 {
-            let count = rng.size(1, 3);
-            *device.checks(which) = draw::checks(rng, n, count);
+            *device.checks(which) = draw::checks(rng, n, rng.size(1, 3));
         }
     }
     record
@@ -105,7 +105,7 @@ pub fn texts(rng: &Rng, case: usize, row: u64) -> Vec<u8> {
 
 fn damaged_bytes(rng: &Rng, way: usize, mut text: Vec<u8>) -> Vec<u8> {
     let at = rng.pick(&[0, text.len() - 1, rng.below(text.len()), rng.below(text.len()), rng.below(text.len())]);
-    match way % 12 {
+    match way % 14 {
         0 => text[at] ^= 1 << rng.below(8),
         1 => text[at] = rng.next() as u8,
         2 => drop(text.remove(at)),
@@ -120,9 +120,16 @@ fn damaged_bytes(rng: &Rng, way: usize, mut text: Vec<u8>) -> Vec<u8> {
             let part = text[at..(at + rng.size(1, 40)).min(text.len())].to_vec();
             text.splice(at..at, part);
         }
-        _ => text = String::from_utf8(text).unwrap().replace('\n', "\r\n").into_bytes(),
+        11 => text = String::from_utf8(text).unwrap().replace('\n', "\r\n").into_bytes(),
+        12 => *any_digit(rng, &mut text) |= 0x80,
+        _ => *any_digit(rng, &mut text) = rng.pick(b"/:;O \0\xb0\xb9"),
     }
     text
+}
+
+fn any_digit<'a>(rng: &Rng, text: &'a mut [u8]) -> &'a mut u8 {
+    let digits: Vec<usize> = (0..text.len()).filter(|&at| text[at].is_ascii_digit()).collect();
+    &mut text[rng.pick(&digits)]
 }
 
 fn damaged_lines(rng: &Rng, way: usize, text: Vec<u8>) -> Vec<u8> {

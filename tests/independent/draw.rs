@@ -56,17 +56,11 @@ pub fn device(rng: &Rng, n: usize, kind: u32) -> Device {
 pub fn record(rng: &Rng, n: usize, devices: usize) -> Record {
     let mine = rng.below(2) as u32;
     let kinds = if mine == 1 { 6 } else { 5 };
-    let fuel_count = rng.pick(&[0, 0, 1, 2, 3]);
     Record {
         intervals: n as u32,
         mine,
-        fuels: (0..fuel_count).map(|_| fuel(rng)).collect(),
-        devices: (0..devices)
-            .map(|_| {
-                let kind = rng.size(1, kinds) as u32;
-                device(rng, n, kind)
-            })
-            .collect(),
+        fuels: (0..rng.pick(&[0, 0, 1, 2, 3])).map(|_| fuel(rng)).collect(),
+        devices: (0..devices).map(|_| device(rng, n, rng.size(1, kinds) as u32)).collect(),
     }
 }
 

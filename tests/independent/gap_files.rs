@@ -25,8 +25,7 @@ struct OneGap {
 
 fn one_gap(rng: &Rng, row: u64, which: usize, before: usize, length: usize, after: usize) -> OneGap {
     let n = before + length + after;
-    let most = (row as usize / n).min(3);
-    let devices = rng.size(1, most);
+    let devices = rng.size(1, (row as usize / n).min(3));
     let device = rng.below(devices);
     let mut record = draw::record(rng, n, devices);
     cut(record.devices[device].series(which), before, length);
@@ -124,7 +123,7 @@ pub fn window_values(rng: &Rng, case: usize, row: u64) -> Vec<u8> {
     let device = &mut gap.record.devices[gap.device];
     let n = before + length + after;
     let max = if which == 0 { FLOW_MAX } else { CH4_MAX };
-    let values = window_row(rng, case / 6 % 6, n, w, before, max);
+    let values = window_row(rng, case / 6 % 7, n, w, before, max);
     *device.series(which) = values;
     cut(device.series(which), before, length);
     // The other series at its top makes one unit more or less visible on the sheet.
@@ -139,6 +138,7 @@ fn window_row(rng: &Rng, style: usize, n: usize, w: usize, before: usize, max: u
         2 => draw::readings(rng, n, max, Style::TwoValues),
         3 => (0..n).map(|i| Some(if i < before { 0 } else { max })).collect(),
         4 => vec![Some(0); n],
+        5 => (0..n).map(|_| Some(max - rng.below(2_000) as u16)).collect(),
         _ => draw::readings(rng, n, max, Style::Noise),
     };
     if style == 4 {
@@ -156,8 +156,7 @@ pub fn checks(rng: &Rng, case: usize, _row: u64) -> Vec<u8> {
     } else {
         rng.size(4, 40)
     };
-    let devices = rng.size(1, 2);
-    let mut record = draw::record(rng, n, devices);
+    let mut record = draw::record(rng, n, rng.size(1, 2));
     for device in &mut record.devices {
         for which in 0..2 {
             let middle = rng.size(0, n);

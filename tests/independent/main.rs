@@ -115,7 +115,7 @@ fn compare_records(row: u64, seed: &str, count: &str, words: &[&str]) -> Option<
     let (seed, count) = (seed.parse().ok()?, count.parse().ok()?);
     let ask = |number| compare::ask_record(seed, number, row);
     let summary = compare::compare(count, &ask, &program(words)?);
-    Some(summary.conclude(count, &compare::record_kinds_wanted(), &ask))
+    Some(summary.conclude(count, &compare::record_kinds_wanted(row), &ask))
 }
 
 fn compare_sheets(seed: &str, count: &str, words: &[&str]) -> Option<bool> {

@@ -1,7 +1,7 @@
 //! Classes of files that are accepted: small ones, all outcomes, months, many devices, extremes, tonne borders.
 
 use crate::draw::{self, cut, CH4_MAX, FLOW_MAX};
-use crate::protocol::{MG_PER_TONNE, MOST_DEVICES};
+use crate::protocol::{MG_PER_TONNE, MOST_DEVICES, MOST_INTERVALS, PROGRAM_ROW};
 use crate::quantify::quantify;
 use crate::record::{Check, Device, Fuel, Record};
 use crate::rng::Rng;
@@ -11,8 +11,7 @@ pub fn small(rng: &Rng, case: usize, _row: u64) -> Vec<u8> {
     let mut record = draw::record(rng, n, rng.size(1, 4));
     for device in &mut record.devices {
         for which in 0..2 {
-            let count = rng.pick(&[0, 0, 1, 2, 3]);
-            *device.checks(which) = draw::checks(rng, n, count);
+            *device.checks(which) = draw::checks(rng, n, rng.pick(&[0, 0, 1, 2, 3]));
         }
         spoil(rng, device, 12);
     }
@@ -99,15 +98,20 @@ pub fn month(rng: &Rng, _case: usize, row: u64) -> Vec<u8> {
     record.text()
 }
 
+/// As many intervals as the reader's rows hold for so many devices; of longer rows mostly only the program's part.
+pub fn row_length(rng: &Rng, devices: usize, row: u64) -> usize {
+    let used = if rng.chance(8) { row } else { row.min(PROGRAM_ROW) };
+    (used as usize / devices).min(MOST_INTERVALS as usize)
+}
+
 /// Rows as long as the reader is lent, for every number of devices.
 pub fn several_devices(rng: &Rng, case: usize, row: u64) -> Vec<u8> {
     let devices = [16, 2, 12, 8, 3, 6, 4, 5, 7, 9, 10, 11, 13, 14, 15][case % 15];
-    let n = (row as usize / devices).min(35_136) - rng.pick(&[0, 0, 0, 1, 20]);
+    let n = row_length(rng, devices, row) - rng.pick(&[0, 0, 0, 1, 20]);
     let mut record = draw::record(rng, n, devices);
     for device in &mut record.devices {
         for which in 0..2 {
-            let count = rng.size(0, 6);
-            *device.checks(which) = draw::checks(rng, n, count);
+            *device.checks(which) = draw::checks(rng, n, rng.size(0, 6));
             let length = rng.pick(&[1, 3, 23, 24, 40]);
             let start = rng.pick(&[0, 15, 16, rng.below(n - length), n - length - 16, n - length - 15, n - length]);
             cut(device.series(which), start, length);
@@ -160,8 +164,8 @@ pub fn longest_record(any_width: bool) -> Record {
 /// One value of each series for every interval, at the ends of its range.
 pub fn extremes(rng: &Rng, case: usize, row: u64) -> Vec<u8> {
     let devices = rng.pick(&[1, 1, 2, 16]);
-    let n = if case % 20 == 0 { row as usize / devices } else { rng.size(1, 12) };
-    let mut record = draw::record(rng, n.min(35_136), devices);
+    let n = if case % 20 == 0 { row_length(rng, devices, row) } else { rng.size(1, 12) };
+    let mut record = draw::record(rng, n, devices);
     for device in &mut record.devices {
         let count = device.flow.len();
         device.kind = (case % if record.mine == 1 { 6 } else { 5 }) as u32 + 1;

@@ -1,6 +1,7 @@
 //! Classes of files that are refused by their numbers: the head's limits, one offence, several at once.
 
 use crate::draw;
+use crate::plain_files::row_length;
 use crate::record::{joined, Check, Device, Fuel, Record};
 use crate::rng::Rng;
 
@@ -56,7 +57,7 @@ const HEADS: [(u64, u64); 44] = [
 pub fn heads(rng: &Rng, case: usize, row: u64) -> Vec<u8> {
     let devices = case / 6 % 16 + 1;
     match case % 6 {
-        0 => whole_at_limit(rng, devices, row),
+        0 => draw::record(rng, row_length(rng, devices, row), devices).text(),
         1 => head(rng, row / devices as u64 + 1, devices as u64),
         2 => head(rng, row + 1, 1),
         way => {
@@ -64,11 +65,6 @@ pub fn heads(rng: &Rng, case: usize, row: u64) -> Vec<u8> {
             head(rng, n, d)
         }
     }
-}
-
-fn whole_at_limit(rng: &Rng, devices: usize, row: u64) -> Vec<u8> {
-    let n = (row as usize / devices).min(35_136);
-    draw::record(rng, n, devices).text()
 }
 
 fn head(rng: &Rng, n: u64, devices: u64) -> Vec<u8> {
@@ -98,7 +94,7 @@ pub fn one(rng: &Rng, case: usize, _row: u64) -> Vec<u8> {
     let mut way = case % total;
     for (number, ways, inside) in WAYS {
         if way < ways + inside {
-            let mut record = base(rng, 1);
+            let mut record = base(rng, rng.size(1, 3));
             offend(rng, &mut record, number, way);
             return record.text();
         }
@@ -107,8 +103,8 @@ pub fn one(rng: &Rng, case: usize, _row: u64) -> Vec<u8> {
     unreachable!()
 }
 
-fn base(rng: &Rng, fewest: usize) -> Record {
-    let (n, devices) = (rng.size(2, 8), rng.size(fewest, 3));
+fn base(rng: &Rng, devices: usize) -> Record {
+    let n = rng.size(2, 8);
     let mut record = draw::record(rng, n, devices);
     for device in &mut record.devices {
         for which in 0..2 {
@@ -136,7 +132,7 @@ pub fn pairs(rng: &Rng, case: usize, _row: u64) -> Vec<u8> {
     let all: Vec<(u32, u32)> =
         NUMBERS.iter().flat_map(|&a| NUMBERS.iter().filter(move |&&b| a < b).map(move |&b| (a, b))).collect();
     let (lower, higher) = all[case % all.len()];
-    let mut record = base(rng, 2);
+    let mut record = base(rng, rng.size(2, 3));
     break_rule(rng, &mut record, higher);
     break_rule(rng, &mut record, lower);
     let mut lines = record.lines();
@@ -150,7 +146,7 @@ pub fn pairs(rng: &Rng, case: usize, _row: u64) -> Vec<u8> {
 /// One rule broken several times: the first offender is asked for.
 pub fn rivals(rng: &Rng, case: usize, _row: u64) -> Vec<u8> {
     let number = [7, 8, 8, 9, 7, 8, 5, 6][case % 8];
-    let mut record = base(rng, 1);
+    let mut record = base(rng, rng.pick(&[1, 1, 2, 3]));
     if number == 9 {
         record.fuels = (0..rng.size(2, 6)).map(|_| draw::fuel(rng)).collect();
     }
@@ -231,8 +227,7 @@ fn offend_reading(rng: &Rng, device: &mut Device, way: usize) {
 
 fn offend_fuel(rng: &Rng, record: &mut Record, way: usize) {
     if record.fuels.is_empty() {
-        let count = rng.pick(&[1, 2, 64]);
-        record.fuels = vec![Fuel { quantity: 1, factor: 1 }; count];
+        record.fuels = vec![Fuel { quantity: 1, factor: 1 }; rng.pick(&[1, 2, 64])];
     }
     let place = rng.pick(&[0, record.fuels.len() - 1, rng.below(record.fuels.len())]);
     let fuel = &mut record.fuels[place];
