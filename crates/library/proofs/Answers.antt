@@ -1,9 +1,11 @@
 -- What the host's arrays hold after an answer, by its case. Assumes nothing.
 use Prim.Native.Nat.{ℕ}
 use mathlib.Core.Path.{_≡_, refl, sym, ap, _∙_, subst}
-use mathlib.Core.List.{List}
+use mathlib.Core.List.{List, [], _∷_}
+use mathlib.Core.Logic.{inl, inr}
 use native.Mathlib.Omega.{arith}
 use denote.Enum.Declared.{tagOf}
+use types.Run.{OneOf}
 use Rattle.figures.specs.declared.Figures.{Figures}
 use Rattle.quantify.specs.declared.Answer.{Answer}
 use Rattle.quantify.specs.declared.Answer.the-variants as Answer
@@ -13,8 +15,12 @@ use Rattle.sheet_text.specs.declared.WriteAnswer.{WriteAnswer}
 use Rattle.sheet_text.specs.declared.ReadAnswer.{ReadAnswer}
 use Rattle.sheet_text.specs.declared.ReadAnswer.the-variants as ReadAnswer
 use Rattle.sheet_text.proofs.ReadAnswer as ReadAnswerType
+use Rattle.record.specs.declared.Header.{Header}
+use Rattle.record.specs.declared.ReadAnswer as RecordType
+use Rattle.record.specs.declared.ReadAnswer.the-variants as RecordAnswer
+use Rattle.record.proofs.ReadAnswer as RecordAnswerType
 use Rattle.library.specs.Figures.{amountsOf, balancesOf}
-use Rattle.library.specs.Exported.{Held, given, heldAfter, heldOf}
+use Rattle.library.specs.Exported.{Held, given, heldAfter, heldOf, headed, headAfter}
 
 -- what is given is the figures' arrays
 both-given : (f : Figures) (new : Held) → (new .amounts ≡ amountsOf f) × (new .balances ≡ balancesOf f) → new ≡ given f
@@ -38,3 +44,19 @@ no-sheet-held (ReadAnswer.NoSheet k) old tag = refl
 
 pub same-written : (f g : Figures) (old new : List ℕ) (a : WriteAnswer) → f ≡ g → WriteRight f old new a → WriteRight g old new a
 same-written f g old new a e w = subst (λ (h : Figures). WriteRight h old new a) e w
+
+pub record-head : (a : RecordType.ReadAnswer) (h : Header) (old : List ℕ) → a ≡ RecordAnswer.Record h → headed h ≡ headAfter a old
+record-head a h old is = sym (ap (λ (x : RecordType.ReadAnswer). headAfter x old) is)
+
+never-zero : OneOf (1 ∷ 2 ∷ 3 ∷ 4 ∷ []) 0 → ⊥
+never-zero (inl h) = omega (arith, h)
+never-zero (inr (inl h)) = omega (arith, h)
+never-zero (inr (inr (inl h))) = omega (arith, h)
+never-zero (inr (inr (inr h))) = omega (arith, h)
+
+pub no-record-head : (a : RecordType.ReadAnswer) (old : List ℕ) → OneOf (1 ∷ 2 ∷ 3 ∷ 4 ∷ []) (tagOf RecordAnswerType.the-type a) → old ≡ headAfter a old
+no-record-head (RecordAnswer.Record h) old tag = absurd (never-zero tag)
+no-record-head RecordAnswer.Intervals old tag = refl
+no-record-head RecordAnswer.Devices old tag = refl
+no-record-head RecordAnswer.Room old tag = refl
+no-record-head (RecordAnswer.Line l) old tag = refl

@@ -13,7 +13,11 @@ use Rattle.sheet_text.specs.Read as Read
 use Rattle.sheet_text.specs.declared.WriteAnswer.{WriteAnswer}
 use Rattle.sheet_text.specs.declared.ReadAnswer.{ReadAnswer}
 use Rattle.sheet_text.proofs.Settled.{read-settled, write-settled}
-use Rattle.library.specs.Exported.{Held, heldAfter, heldOf, sizeOf, Quantified, SheetWritten, SheetRead}
+use Rattle.record_form.specs.Rows as Record
+use Rattle.record.specs.Read as Reader
+use Rattle.record.specs.declared.ReadAnswer as RecordType
+use Rattle.record.proofs.Settled as RecordSettled
+use Rattle.library.specs.Exported.{Held, heldAfter, heldOf, sizeOf, headAfter, Quantified, SheetWritten, SheetRead, RecordRead}
 
 -- two things told of two answers that are one
 told-once : {A B : Type 0} (f : A → B) {a b : A} {x y : B} → a ≡ b → x ≡ f a → y ≡ f b → x ≡ y
@@ -52,4 +56,15 @@ sheet-read-settled t old held other at at′ m n x y =
       told-once (λ (a : ReadAnswer). heldOf a old) e (x .figures) (y .figures),
       told-once (λ (a : ReadAnswer). Read.placeOf a ∷ []) e (x .place) (y .place),
       told-once Read.numberOf e (x .told) (y .told),
+    )
+
+pub record-read-settled : (t : List ℕ) (before one two : Record.Rows) (old new other line line′ : List ℕ) (m n : ℕ)
+    → RecordRead t before one old new line m → RecordRead t before two old other line′ n
+    → (one ≡ two) × (new ≡ other) × (line ≡ line′) × (m ≡ n)
+record-read-settled t before one two old new other line line′ m n x y =
+    let e = RecordSettled.read-once t before one two (x .answer) (y .answer) (x .right) (y .right) in (
+      e .1,
+      told-once (λ (a : RecordType.ReadAnswer). headAfter a old) (e .0) (x .head) (y .head),
+      told-once (λ (a : RecordType.ReadAnswer). Reader.placeOf a ∷ []) (e .0) (x .place) (y .place),
+      told-once Reader.numberOf (e .0) (x .told) (y .told),
     )

@@ -18,6 +18,11 @@ use Rattle.sheet_text.specs.declared.WriteAnswer.{WriteAnswer}
 use Rattle.sheet_text.specs.declared.WriteAnswer.the-variants as WriteAnswer
 use Rattle.sheet_text.specs.declared.ReadAnswer.{ReadAnswer}
 use Rattle.sheet_text.specs.declared.ReadAnswer.the-variants as ReadAnswer
+use Rattle.record_form.specs.Rows as Record
+use Rattle.record.specs.Read as Reader
+use Rattle.record.specs.declared.Header.{Header}
+use Rattle.record.specs.declared.ReadAnswer as RecordType
+use Rattle.record.specs.declared.ReadAnswer.the-variants as RecordAnswer
 use Rattle.library.specs.Figures.{amountsOf, balancesOf}
 
 -- the host's two arrays of figures
@@ -60,3 +65,21 @@ pub record SheetRead (t : List ℕ) (old new : Held) (offset : List ℕ) (number
   pub told : number ≡ Read.numberOf answer
   pub place : offset ≡ Read.placeOf answer ∷ []
   pub figures : new ≡ heldOf answer old
+
+-- the numbers at a record's head
+abbrev pub headed : Header → List ℕ
+headed h = h .intervals ∷ h .devices ∷ h .mine ∷ h .fuels ∷ []
+
+abbrev pub headAfter : RecordType.ReadAnswer → List ℕ → List ℕ
+headAfter (RecordAnswer.Record h) before = headed h
+headAfter RecordAnswer.Intervals before = before
+headAfter RecordAnswer.Devices before = before
+headAfter RecordAnswer.Room before = before
+headAfter (RecordAnswer.Line l) before = before
+
+pub record RecordRead (t : List ℕ) (before after : Record.Rows) (old new line : List ℕ) (number : ℕ) : Type 0 where
+  pub answer : RecordType.ReadAnswer
+  pub right : Reader.ReadRight t before after answer
+  pub told : number ≡ Reader.numberOf answer
+  pub place : line ≡ Reader.placeOf answer ∷ []
+  pub head : new ≡ headAfter answer old
