@@ -114,7 +114,7 @@ read-long t before after (ReadAnswer.Line k) x = subst (λ (r : Rows). SameLong 
 
 -- ---- what stands in the lent rows does not matter
 
-same-room : (k l : Lent) → AsLong k l → roomOf (readerRows k) ≡ roomOf (readerRows l)
+pub same-room : (k l : Lent) → AsLong k l → roomOf (readerRows k) ≡ roomOf (readerRows l)
 unfolding readerRows
 same-room k l e = λ i. lesser (e .flow i) (lesser (e .content i) (lesser (e .temp i) (lesser (e .press i) (e .status i))))
 
@@ -221,7 +221,7 @@ module _ (t : List ℕ) (k l : Lent) (e : AsLong k l) where
 
 -- ---- the whole
 
-abbrev lentAs : Rows → Devices.Rows → Lent
+abbrev pub lentAs : Rows → Devices.Rows → Lent
 lentAs r results = record { flow = r .flow; content = r .content; temp = r .temp; press = r .press; status = r .status; results = results }
 
 module _ (t : List ℕ) (l : Lent) (rows : Rows) (old new : List ℕ) (n : ℕ) where
