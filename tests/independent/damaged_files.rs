@@ -66,7 +66,8 @@ pub fn values(rng: &Rng, case: usize, _row: u64) -> Vec<u8> {
         5 => (high - 1).to_string(),
         6 => String::new(),
         7 => format!("0{}", rng.below(100)),
-        _ => rng.pick(&VALUES).to_string(),
+        // 16 keys and 25 values have no common divisor: in time every value meets every key.
+        _ => VALUES[case / 2 % VALUES.len()].to_string(),
     };
     let mut lines = base(rng, 4).lines();
     let head = format!("{key}=");
