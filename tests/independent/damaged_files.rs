@@ -66,7 +66,8 @@ pub fn values(rng: &Rng, case: usize, _row: u64) -> Vec<u8> {
         5 => (high - 1).to_string(),
         6 => String::new(),
         7 => format!("0{}", rng.below(100)),
-        _ => rng.pick(&VALUES).to_string(),
+        // 16 keys and 25 values have no common divisor: in time every value meets every key.
+        _ => VALUES[case / 2 % VALUES.len()].to_string(),
     };
     let mut lines = base(rng, 4).lines();
     let head = format!("{key}=");
@@ -105,7 +106,7 @@ pub fn texts(rng: &Rng, case: usize, row: u64) -> Vec<u8> {
 
 fn damaged_bytes(rng: &Rng, way: usize, mut text: Vec<u8>) -> Vec<u8> {
     let at = rng.pick(&[0, text.len() - 1, rng.below(text.len()), rng.below(text.len()), rng.below(text.len())]);
-    match way % 14 {
+    match way % 15 {
         0 => text[at] ^= 1 << rng.below(8),
         1 => text[at] = rng.next() as u8,
         2 => drop(text.remove(at)),
@@ -121,7 +122,8 @@ fn damaged_bytes(rng: &Rng, way: usize, mut text: Vec<u8>) -> Vec<u8> {
             text.splice(at..at, part);
         }
         11 => text = String::from_utf8(text).unwrap().replace('\n', "\r\n").into_bytes(),
-        12 => *any_digit(rng, &mut text) |= 0x80,
+        12 => text.extend(rng.pick(&["\0", "\0\0\0", "\0x\n", "\x1a", "\x04"]).as_bytes()),
+        13 => *any_digit(rng, &mut text) |= 0x80,
         _ => *any_digit(rng, &mut text) = rng.pick(b"/:;O \0\xb0\xb9"),
     }
     text

@@ -33,8 +33,8 @@ pub const CLASSES: [Class; 19] = [
     class("heads", 15, refusal_files::heads),
     class("one offence", 14, refusal_files::one),
     class("pairs of offences", 9, refusal_files::pairs),
-    class("rival offenders", 13, refusal_files::rivals),
-    class("one wrong value", 34, damaged_files::values),
+    class("rival offenders", 15, refusal_files::rivals),
+    class("one wrong value", 42, damaged_files::values),
     class("damaged text", 16, damaged_files::texts),
     class("junk", 3, damaged_files::junk),
 ];

@@ -145,7 +145,7 @@ pub fn pairs(rng: &Rng, case: usize, _row: u64) -> Vec<u8> {
 
 /// One rule broken several times: the first offender is asked for.
 pub fn rivals(rng: &Rng, case: usize, _row: u64) -> Vec<u8> {
-    let number = [7, 8, 8, 9, 7, 8, 5, 6][case % 8];
+    let number = [7, 8, 9, 8, 7, 8, 9, 5, 7, 6][case % 10];
     let mut record = base(rng, rng.pick(&[1, 1, 2, 3]));
     if number == 9 {
         record.fuels = (0..rng.size(2, 6)).map(|_| draw::fuel(rng)).collect();

@@ -1,3 +1,6 @@
+use Rattle.report.proofs.Laws.{sheet-leads, never-short, answer-leads}
+use native.Mathlib.Omega.{arith}
+use mathlib.Core.Path.{refl, _∙_}
 use borrow.Author.Needs.{needs}
 use Rattle.report.proofs.put_answer.Statement.{statement}
 use Rattle.report.proofs.put_answer.Tie as tie
@@ -43,7 +46,7 @@ place-requires c κs = search needs
 
 -- src/lib.rt:34:31
 put-refusal-requires : tie.Need-put-refusal-requires
-put-refusal-requires c κs = search needs
+put-refusal-requires c κs = c .before .before .before .before .before .before .before .before .pre
 
 -- src/lib.rt:25:1
 same-length : tie.Need-same-length
@@ -51,7 +54,7 @@ same-length c = search needs
 
 -- src/lib.rt:25:1
 returns : tie.Need-returns
-returns c = search needs
+returns c = sheet-leads _ _ _ _ _ (c .before .before .before .before .before .write .result) (c .before .before .before .before .before .before .before .before .a .given .1) (c .before .n .given .1) (c .before .before .before .before .before .write .ensures)
 
 -- src/lib.rt:25:1
 same-length-2 : tie.Need-same-length-2
@@ -59,7 +62,7 @@ same-length-2 c = search needs
 
 -- src/lib.rt:25:1
 returns-2 : tie.Need-returns-2
-returns-2 c = search needs
+returns-2 c = absurd (never-short (c .before .before .before .before .before .before .before .before .before .before .before .args .a) _ _ 0 _ (c .before .before .before .before .before .write .result) _ (c .before .n2 .given .1) (c .before .before .before .before .before .write .ensures) (c .before .before .before .before .before .before .before .before .before .before .before .pre))
 
 -- src/lib.rt:25:1
 same-length-3 : tie.Need-same-length-3
@@ -67,7 +70,7 @@ same-length-3 c = search needs
 
 -- src/lib.rt:25:1
 returns-3 : tie.Need-returns-3
-returns-3 c = search needs
+returns-3 c = answer-leads _ _ _ _ _ _ _ _ (c .before .before .before .before .before .before .before .before .a2 .given .1) (c .before .before .before .before .before .number .ensures) (c .before .before .before .before .device .ensures) (c .before .before .before .place .ensures) (c .before .before .put-refusal .ensures)
 
 pub put-answer-spec : {M : Type 1} → statement M
 put-answer-spec =
