@@ -1,7 +1,8 @@
 -- Any two results that an exported function's contract permits are equal: the number and every entry lent. Assumes nothing.
-use Prim.Native.Nat.{ℕ}
+use Prim.Native.Nat.{ℕ, _+_, _*_, _<_}
 use mathlib.Core.Path.{_≡_, sym, ap, _∙_}
 use mathlib.Core.List.{List, [], _∷_}
+use native.Mathlib.Omega.{arith}
 use Rattle.checks.specs.Call.{Call}
 use Rattle.devices.specs.Devices.{Rows}
 use Rattle.figures.specs.declared.Figures.{Figures}
@@ -68,3 +69,8 @@ record-read-settled t before one two old new other line line′ m n x y =
       told-once (λ (a : RecordType.ReadAnswer). Reader.placeOf a ∷ []) (e .0) (x .place) (y .place),
       told-once Reader.numberOf (e .0) (x .told) (y .told),
     )
+
+-- The year's program (host/year.c) lends rows of 35,136 × 16 entries and reads at most 34,328,709 bytes: by `report-cut` what is
+-- right of those is right of the whole input.
+year-enough : 61 * (35136 * 16) + 35972 < 34328709
+year-enough = omega arith
