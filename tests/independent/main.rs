@@ -1,5 +1,6 @@
 //! `independent`: document 01 implemented a second time, apart from the proved crates, with a seeded generator of
 //! record files. See README.md beside this file.
+#![allow(unexpected_cfgs)] // `library` is named on rustc's command line
 
 mod answerer;
 mod compare;
@@ -11,6 +12,8 @@ mod drift;
 mod gap_files;
 mod gaps;
 mod generate;
+#[cfg(library)]
+mod library;
 mod outcomes;
 mod plain_files;
 mod possible_text;
@@ -40,6 +43,8 @@ const USAGE: &str = "usage:
   independent compare SEED COUNT PROGRAM [WORDS]         the program on generated record files
   independent compare-row ROW SEED COUNT PROGRAM [WORDS] the same for a reader that is lent longer rows
   independent compare-sheets SEED COUNT PROGRAM [WORDS]  a program that answers as read-sheet does
+  independent compare-library SEED COUNT ROW     the linked library with rows of this length, result rows too
+  independent compare-library-sheets SEED COUNT  its reader and writer of sheets (both only where it is linked)
   independent selfcheck                          the own implementation held to document 01's numbers";
 
 fn main() -> ExitCode {
@@ -71,6 +76,10 @@ fn run(words: &[&str]) -> Option<bool> {
         ["compare", seed, count, program @ ..] => compare_records(default_row, seed, count, program),
         ["compare-row", row, seed, count, program @ ..] => compare_records(row.parse().ok()?, seed, count, program),
         ["compare-sheets", seed, count, program @ ..] => compare_sheets(seed, count, program),
+        #[cfg(library)]
+        ["compare-library", seed, count, row] => compare_library(seed.parse().ok()?, count.parse().ok()?, row.parse().ok()?),
+        #[cfg(library)]
+        ["compare-library-sheets", seed, count] => compare_library_sheets(seed.parse().ok()?, count.parse().ok()?),
         ["selfcheck"] => Some(selfcheck::run()),
         _ => None,
     }
@@ -122,5 +131,19 @@ fn compare_sheets(seed: &str, count: &str, words: &[&str]) -> Option<bool> {
     let (seed, count) = (seed.parse().ok()?, count.parse().ok()?);
     let ask = |number| compare::ask_sheet(seed, number);
     let summary = compare::compare(count, &ask, &program(words)?);
+    Some(summary.conclude(count, &["sheet".to_string(), "refusal 10".to_string()], &ask))
+}
+
+#[cfg(library)]
+fn compare_library(seed: u64, count: usize, row: u64) -> Option<bool> {
+    let ask = |number| library::ask(seed, number, row);
+    let summary = compare::compare(count, &ask, &library::Records { row: row as usize });
+    Some(summary.conclude(count, &compare::record_kinds_wanted(row), &ask))
+}
+
+#[cfg(library)]
+fn compare_library_sheets(seed: u64, count: usize) -> Option<bool> {
+    let ask = |number| compare::ask_sheet(seed, number);
+    let summary = compare::compare(count, &ask, &library::Sheets);
     Some(summary.conclude(count, &["sheet".to_string(), "refusal 10".to_string()], &ask))
 }
