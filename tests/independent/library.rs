@@ -12,16 +12,39 @@ const KEPT: (u8, u16) = (0xa5, 0xa5a5);
 
 extern "C" {
     fn cmm_report(
-        t: *const u8, t_length: usize, flow: *mut u16, flow_length: usize, content: *mut u16, content_length: usize,
-        temp: *mut i16, temp_length: usize, press: *mut u32, press_length: usize, status: *mut u8, status_length: usize,
-        outcome: *mut u8, outcome_length: usize, flow_used: *mut u16, flow_used_length: usize,
-        content_used: *mut u16, content_used_length: usize, out: *mut [u8; 465],
+        t: *const u8,
+        t_length: usize,
+        flow: *mut u16,
+        flow_length: usize,
+        content: *mut u16,
+        content_length: usize,
+        temp: *mut i16,
+        temp_length: usize,
+        press: *mut u32,
+        press_length: usize,
+        status: *mut u8,
+        status_length: usize,
+        outcome: *mut u8,
+        outcome_length: usize,
+        flow_used: *mut u16,
+        flow_used_length: usize,
+        content_used: *mut u16,
+        content_used_length: usize,
+        out: *mut [u8; 465],
     ) -> usize;
     fn cmm_read_sheet(
-        t: *const u8, t_length: usize, amounts: *mut [u64; 13], balances: *mut [i64; 2], offset: *mut u64,
+        t: *const u8,
+        t_length: usize,
+        amounts: *mut [u64; 13],
+        balances: *mut [i64; 2],
+        offset: *mut u64,
     ) -> u64;
     fn cmm_write_sheet(
-        amounts: *const [u64; 13], balances: *const [i64; 2], buf: *mut u8, buf_length: usize, size: *mut u64,
+        amounts: *const [u64; 13],
+        balances: *const [i64; 2],
+        buf: *mut u8,
+        buf_length: usize,
+        size: *mut u64,
     ) -> u64;
 }
 
@@ -61,11 +84,25 @@ impl Rows {
         // Each array is lent with its own length, and no two overlap.
         unsafe {
             cmm_report(
-                input.as_ptr(), input.len(), self.flow.as_mut_ptr(), self.flow.len(), self.content.as_mut_ptr(),
-                self.content.len(), self.temp.as_mut_ptr(), self.temp.len(), self.press.as_mut_ptr(), self.press.len(),
-                self.status.as_mut_ptr(), self.status.len(), self.outcome.as_mut_ptr(), self.outcome.len(),
-                self.flow_used.as_mut_ptr(), self.flow_used.len(), self.content_used.as_mut_ptr(),
-                self.content_used.len(), out,
+                input.as_ptr(),
+                input.len(),
+                self.flow.as_mut_ptr(),
+                self.flow.len(),
+                self.content.as_mut_ptr(),
+                self.content.len(),
+                self.temp.as_mut_ptr(),
+                self.temp.len(),
+                self.press.as_mut_ptr(),
+                self.press.len(),
+                self.status.as_mut_ptr(),
+                self.status.len(),
+                self.outcome.as_mut_ptr(),
+                self.outcome.len(),
+                self.flow_used.as_mut_ptr(),
+                self.flow_used.len(),
+                self.content_used.as_mut_ptr(),
+                self.content_used.len(),
+                out,
             )
         }
     }

@@ -77,7 +77,9 @@ fn run(words: &[&str]) -> Option<bool> {
         ["compare-row", row, seed, count, program @ ..] => compare_records(row.parse().ok()?, seed, count, program),
         ["compare-sheets", seed, count, program @ ..] => compare_sheets(seed, count, program),
         #[cfg(library)]
-        ["compare-library", seed, count, row] => compare_library(seed.parse().ok()?, count.parse().ok()?, row.parse().ok()?),
+        ["compare-library", seed, count, row] => {
+            compare_library(seed.parse().ok()?, count.parse().ok()?, row.parse().ok()?)
+        }
         #[cfg(library)]
         ["compare-library-sheets", seed, count] => compare_library_sheets(seed.parse().ok()?, count.parse().ok()?),
         ["selfcheck"] => Some(selfcheck::run()),
