@@ -1,4 +1,4 @@
-use Rattle.sheet.proofs.Laws.{leads-long}
+use Rattle.text.proofs.Writing.{leads-long}
 use mathlib.Core.Path.{sym}
 use borrow.Author.Needs.{needs}
 use Rattle.sheet.proofs.run.Statement.{statement}
