@@ -12,25 +12,17 @@ use Rattle.record_form.specs.Field as Field
 use Rattle.record_form.specs.Field.{lineText}
 use Rattle.record_form.specs.Plan.{Line, textOf}
 use Rattle.record_form.specs.File.{file, Record, IsRecord, Begins, Headed, Limits, Fine, FirstWrong}
+use Rattle.record_form.proofs.Files.{record-begins}
 use Rattle.record_form.proofs.Parts.{withHead}
 use Rattle.record_form.proofs.Longest.{line-widest, begins-headed, begins-longest}
 
--- The text of a record begins with its lines.
-pub record-begins : (t : List ℕ) (ls : List Line) → Record ls → t ≡ textOf ls → Begins t ls
-record-begins t ls h e =
-    record {
-      more = [];
-      follows = subst Record (sym (append-nil ls)) h;
-      stands = record { within = omega (arith, ap length e); is = ap (take (length (textOf ls))) e ∙ take-length (textOf ls) };
-    }
-
 -- Its N and D are in their limits where those of the text are.
 pub record-limits : (t : List ℕ) (room n d : ℕ) (ls : List Line) → Fine t room → Record (withHead n d ls) → t ≡ textOf (withHead n d ls) → Limits n d room
-record-limits t room n d ls fine h e = fine .limits n d (begins-headed t n d ls (record-begins t (withHead n d ls) h e))
+record-limits t room n d ls fine h e = fine .limits n d (begins-headed t n d ls (record-begins h e))
 
 -- A record file with right N and D is no longer than the longest.
 pub record-fits : (t : List ℕ) (room : ℕ) (ls : List Line) → Fine t room → Record ls → t ≡ textOf ls → length t ≤ 61 * room + 35972
-record-fits t room ls fine h e = omega (arith, ap length e, begins-longest t room ls fine (record-begins t ls h e))
+record-fits t room ls fine h e = omega (arith, ap length e, begins-longest t room ls fine (record-begins h e))
 
 -- The first two lines are short, whatever their numbers.
 headed-short : (t : List ℕ) (n d : ℕ) → Headed t n d → length (textOf (withHead n d [])) ≤ 40

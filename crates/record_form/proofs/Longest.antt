@@ -20,6 +20,7 @@ use Rattle.record_form.specs.Field.{Field, keyOf, rangeOf, isMark, lineT
 use Rattle.record_form.specs.Plan.{Line, lineIs, Plan, ask, times, textOf}
 use Rattle.record_form.specs.File.{fuelLines, checkLines, entryLines, deviceLines, file, Record, Begins, Headed, Limits, Fine}
 use Rattle.record_form.proofs.Walking.{text-append}
+use Rattle.record_form.proofs.Files.{begins-less}
 use Rattle.record_form.proofs.Parts.{
   Part,
   part-none,
@@ -211,22 +212,9 @@ record-longest n d room ls h l =
 text-grows : (xs ys : List Line) → length (textOf xs) ≤ length (textOf (xs ++ ys))
 text-grows xs ys = omega (arith, ap length (text-append xs ys), length-append (textOf xs) (textOf ys))
 
--- A text that begins with lines begins with the first of them.
-pub begins-less : (t : List ℕ) (xs ys : List Line) → Begins t (xs ++ ys) → Begins t xs
-begins-less t xs ys b =
-    record {
-      more = ys ++ b .more;
-      follows = subst Record (append-assoc xs ys (b .more)) (b .follows);
-      stands = record {
-        within = le-trans (text-grows xs ys) (b .stands .within);
-        is = sym (take-take (length (textOf xs)) (length (textOf (xs ++ ys))) t (text-grows xs ys))
-            ∙ ap (take (length (textOf xs))) (b .stands .is ∙ text-append xs ys) ∙ take-append-seam (textOf xs) (textOf ys);
-      };
-    }
-
 -- The first two lines of a beginning are the text's head.
 pub begins-headed : (t : List ℕ) (n d : ℕ) (ls : List Line) → Begins t (withHead n d ls) → Headed t n d
-begins-headed t n d ls b = begins-less t (withHead n d []) ls b
+begins-headed t n d ls b = begins-less (withHead n d []) ls b
 
 -- The first line alone.
 one-short : (l : Line) (more : List Line) → Record (l ∷ more) → length (textOf (l ∷ [])) ≤ 21

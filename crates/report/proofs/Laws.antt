@@ -9,12 +9,12 @@ use lib.IntN.{ℤ, pos}
 use borrow.Author.Tests.{leb-false}
 use Rattle.rows.specs.Rows.{pick}
 use lib.ListN.{length, take, drop, length-append, take-append-drop}
-use lib.Seq.{sets, sets-eq, length-sets, length-take-le}
+use lib.Seq.{length-take-le}
 use Rattle.text.specs.Bytes.{bytes}
 use Rattle.text.specs.Line.{lineOf}
 use Rattle.text.specs.Answer.{Put, Leads}
 use Rattle.text.proofs.Decimals.{dec-20}
-use Rattle.text.proofs.Writing.{put-join, line-length}
+use Rattle.text.proofs.Writing.{put-join, put-leads, line-length}
 use Rattle.sheet_text.specs.Sheet.{textOf}
 use Rattle.sheet_text.specs.Write.{WriteRight}
 use Rattle.sheet_text.specs.declared.WriteAnswer.{WriteAnswer}
@@ -32,18 +32,6 @@ use Rattle.record_form.specs.Rows.{Rows, lesser}
 use Rattle.record.specs.declared.Header.{Header}
 use Rattle.report.specs.Quantified.{Quantified, partOf, partsOf, putBack, callOf, answerTo, resultsAfter}
 use Rattle.report.specs.Report.{refusalText, printed}
-
-pub put-leads : (w old new : List ℕ) (n : ℕ) → Put old 0 w new n → length w ≤ length old → Leads w old new n
-put-leads w old new n p h =
-    record {
-      size = omega (arith, p .stops);
-      room = omega (arith, p .stops);
-      is = p .is ∙ sets-eq w old 0 (omega (arith, h)) ∙ ap (λ (k : ℕ). w ++ drop k old) (sym (p .stops));
-      part = sym (length-take-le n new (omega (arith, p .stops, ap length (p .is), length-sets old 0 w)));
-    }
-
-pub put-long : {old w new : List ℕ} {i n : ℕ} → Put old i w new n → length new ≡ length old
-put-long {old = old} {w = w} {i = i} p = ap length (p .is) ∙ length-sets old i w
 
 -- No line with a number of 64 bits is longer than its key and 21 bytes.
 pub line-most : (key : List ℕ) (v : ℕ) → v < 18446744073709551616 → length (lineOf key (pos v)) ≤ length key + 21

@@ -1,11 +1,12 @@
 -- What is printed for a text, for every text.
 -- Assumes nothing.
 use Prim.Native.Nat.{ℕ}
-use mathlib.Core.Path.{_≡_}
+use mathlib.Core.Path.{_≡_, refl}
 use mathlib.Core.List.{List, _++_}
 use lib.IntN.{ℤ, pos}
 use lib.ListN.{length, replicate}
 use Rattle.text.specs.Bytes.{bytes}
+use Rattle.text.specs.Decimal.{dec}
 use Rattle.text.specs.Line.{lineOf}
 use Rattle.text.specs.Answer.{Leads}
 use Rattle.sheet_text.specs.Sheet.{textOf}
@@ -56,13 +57,17 @@ readerRows l =
       status = l .status;
     }
 
+-- the reader's refusal, with document 01's number, device and place
+abbrev pub refused : ReadAnswer → List ℕ
+refused a = refusalText (Read.numberOf a) (Read.deviceOf a) (Read.placeOf a)
+
 -- What is printed: the reader's refusal, or what quantification answers to the record.
 abbrev pub outputOf : ReadAnswer → Rows → Lent → List ℕ
 outputOf (ReadAnswer.Record h) rows l = printed (answerTo h rows (l .results))
-outputOf ReadAnswer.Intervals rows l = refusalText 1 0 0
-outputOf ReadAnswer.Devices rows l = refusalText 2 0 0
-outputOf ReadAnswer.Room rows l = refusalText 13 0 0
-outputOf (ReadAnswer.Line k) rows l = refusalText 12 0 k
+outputOf ReadAnswer.Intervals rows l = refused ReadAnswer.Intervals
+outputOf ReadAnswer.Devices rows l = refused ReadAnswer.Devices
+outputOf ReadAnswer.Room rows l = refused ReadAnswer.Room
+outputOf (ReadAnswer.Line k) rows l = refused (ReadAnswer.Line k)
 
 abbrev pub resultsOf : ReadAnswer → Rows → Lent → Devices.Rows
 resultsOf (ReadAnswer.Record h) rows l = resultsAfter h rows (l .results)
@@ -106,3 +111,8 @@ pub record Reported (t : List ℕ) (before after : Lent) (old new : List ℕ) (n
         results = resultsOf answer rows before;
       }
   pub whatever : (other : Lent) → AsLong other before → Whatever t other (outputOf answer rows before)
+
+-- a line that is wrong, as it is printed
+twelve : refused (ReadAnswer.Line 3) ≡ bytes "refusal=12\ndevice=0\nplace=3\n"
+unfolding refusalText dec
+twelve = refl

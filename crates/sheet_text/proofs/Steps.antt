@@ -4,7 +4,7 @@ use mathlib.Core.Path.{_≡_, refl, sym, ap, _∙_, subst}
 use mathlib.Core.List.{List, [], _∷_, _++_, map}
 use native.Mathlib.Omega.{arith}
 use lib.ListN.{length, getD, take, drop, length-append}
-use lib.Seq.{sets, length-sets, sets-eq, length-take-le, take-suc, take-all, split-at}
+use lib.Seq.{sets, length-sets, take-suc, take-all, split-at}
 use lib.IntN.{ℤ, pos, negsuc}
 use mir.Syntax.{w64}
 use mir.Val.{SFits, toZ, ofZ}
@@ -18,6 +18,7 @@ use Rattle.text.specs.Decimal.{Fit, plain}
 use Rattle.text.specs.Line.{Entry, lineOf, line, linesOf, AllFit, lines}
 use Rattle.text.specs.Answer.{Put, NaturalIn, WholeIn, wrongAt, wholeWrongAt, Asked, AskedSigned}
 use Rattle.text.proofs.Forms.{refused-alike}
+use Rattle.text.proofs.Writing.{put-leads}
 use Rattle.text.proofs.Tables.{lines-read, lines-broken, lines-past, lines-all, lines-put, lines-append, lines-longest, lines-snoc, Wide, longest}
 use Rattle.figures.specs.declared.Figures.{Figures}
 use Rattle.sheet_text.specs.Sheet.{schema, valuesOf, textOf, InRange, IsSheet, unsigned64, signed64}
@@ -272,17 +273,7 @@ nothing x w e = none x (ap length e ∙ length-sets [] 0 w)
 
 pub put-done : (f : Figures) (old mid new : List ℕ) (n m : ℕ) → mid ≡ old → n ≡ 0 + length (textOf f) → n ≤ length mid → Put mid 0 (textOf f) new m → Done f old new m
 put-done f old mid new n m same size room a =
-    let long : length mid ≡ length old = ap length same in
-    let fits : 0 + length (textOf f) ≤ length mid = omega (arith, size) in
-    let text : new ≡ textOf f ++ drop m old =
-    a .is ∙ sets-eq (textOf f) mid 0 fits ∙ ap (λ (k : ℕ). textOf f ++ drop k mid) (sym (a .stops)) ∙ ap (λ (l : List ℕ). textOf f ++ drop m l) same
-    in
-    record {
-      size = omega (arith, a .stops);
-      room = omega (arith, a .stops);
-      is = text;
-      part = sym (length-take-le m new (omega (arith, a .stops, ap length (a .is), length-sets mid 0 (textOf f))));
-    }
+    put-leads (textOf f) old new m (subst (λ (l : List ℕ). Put l 0 (textOf f) new m) same a) (omega (arith, size, ap length same))
 
 pub put-short : (f : Figures) (old mid : List ℕ) (n : ℕ) → mid ≡ old → n ≡ 0 + length (textOf f) → length mid < n → length (textOf f) ≤ 465 → Short f old mid (WriteAnswer.TooShort n)
 put-short f old mid n same size short most = record {

@@ -5,12 +5,12 @@ use mathlib.Core.List.{List, [], _∷_, _++_, append-assoc}
 use native.Mathlib.Omega.{arith}
 use native.Mathlib.Nat.{add-zero, add-suc, suc-add}
 use native.Mathlib.Numerals.{add-one}
-use lib.ListN.{length, getD, take, set, length-append}
-use lib.Seq.{sets, take-suc, length-take-le, length-sets}
+use lib.ListN.{length, getD, take, drop, set, length-append, take-append-drop}
+use lib.Seq.{sets, sets-eq, take-suc, length-take-le, length-sets}
 use lib.IntN.{ℤ}
 use Rattle.text.specs.Decimal.{dec, decimal}
 use Rattle.text.specs.Line.{lineOf}
-use Rattle.text.specs.Answer.{Put}
+use Rattle.text.specs.Answer.{Put, Leads}
 use Rattle.text.proofs.Decimals.{dec-one, dec-more}
 
 pub sets-append : (l : List ℕ) (i : ℕ) (v w : List ℕ) → sets l i (v ++ w) ≡ sets (sets l i v) (i + length v) w
@@ -57,3 +57,29 @@ pub put-line-parts : (old a b new key : List ℕ) (i p q r : ℕ) (z : ℤ) → 
     → Put old i (lineOf key z) new r
 put-line-parts old a b new key i p q r z k v e =
     put-join old a new key (decimal z ++ (10 ∷ [])) i p r k (put-join a b new (decimal z) (10 ∷ []) p q r v e)
+
+-- ---- a text at the start of a buffer
+
+pub put-long : {old w new : List ℕ} {i n : ℕ} → Put old i w new n → length new ≡ length old
+put-long {old = old} {w = w} {i = i} p = ap length (p .is) ∙ length-sets old i w
+
+pub put-leads : (w old new : List ℕ) (n : ℕ) → Put old 0 w new n → length w ≤ length old → Leads w old new n
+put-leads w old new n p h =
+    record {
+      size = omega (arith, p .stops);
+      room = omega (arith, p .stops);
+      is = p .is ∙ sets-eq w old 0 (omega (arith, h)) ∙ ap (λ (k : ℕ). w ++ drop k old) (sym (p .stops));
+      part = sym (length-take-le n new (omega (arith, p .stops, put-long p)));
+    }
+
+pub leads-long : (w old new : List ℕ) (n : ℕ) → Leads w old new n → length new ≡ length old
+leads-long w old new n x =
+    omega (
+      arith,
+      ap length (x .is),
+      length-append w (drop n old),
+      x .size,
+      length-take-le n old (x .room),
+      length-append (take n old) (drop n old),
+      ap length (take-append-drop n old),
+    )

@@ -1,4 +1,4 @@
-use Rattle.report.proofs.Laws.{put-long}
+use Rattle.text.proofs.Writing.{put-long}
 use mathlib.Core.List.{List}
 use Rattle.report.proofs.Laws.{line-most, refusal-leads}
 use Rattle.text.specs.Bytes.{bytes}
