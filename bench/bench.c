@@ -156,7 +156,7 @@ static int option(struct sizes *s, const char *name, const char *number)
 
 int main(int argc, char **argv)
 {
-    struct sizes s = {CMM_INTERVALS_MOST, CMM_DEVICES_MOST, {CMM_INTERVALS_MOST, 2976}, 25, 2000};
+    struct sizes s = {CMM_INTERVALS_MOST, CMM_DEVICES_MOST, {CMM_INTERVALS_MOST, 2976}, 25, 5000};
     int different, i = 1;
     for (; i + 1 < argc && strcmp(argv[i], "-o") != 0; i += 2)
         if (!option(&s, argv[i], argv[i + 1]))
