@@ -184,6 +184,15 @@ settled-accepted c before now e w =
       all-counted = λ f q. subst (λ (g : Figures). g .counted + g .excluded ≡ c .devices * c .intervals) (same-figures (figuresOf c) f q) (sheet-counts c x);
     }
 
+-- What document 01's answer and rows promise, of every call: whoever shows that answer and rows are those has the whole promise, demand 3 with it.
+pub settled-call : (c : Call) (before : Rows) → Settled c before (rowsBy (judged c) c before) (answerBy (judged c) c)
+unfolding answerBy rowsBy
+settled-call c before = by (judged c) refl
+  where
+    by : (v : Verdict) → judged c ≡ v → Settled c before (rowsBy v c before) (answerBy v c)
+    by Clean e = settled-accepted c before (rowsOf (lentIn c) (c .devices)) e refl
+    by (Offended r) e = settled-refused c before r e
+
 pub settled-made : (c : Call) (before : Rows) (outcome flow content : List ℕ) (t : Totals) (f : Figures) → judged c ≡ Clean
     → AllWritten (lentIn c) (c .devices) outcome flow content t → f ≡ figuresOf c
     → Settled c before (record { outcome = outcome; flow = flow; content = content }) (Accepted f)

@@ -30,7 +30,7 @@ use Rattle.devices.specs.Devices as Devices
 use Rattle.quantify.specs.Promise.{Settled, answerBy, rowsBy}
 use Rattle.record_form.specs.Rows.{Rows, lesser}
 use Rattle.record.specs.declared.Header.{Header}
-use Rattle.report.specs.Quantified.{Quantified, partOf, partsOf, putBack, callOf, answerTo, resultsAfter}
+use Rattle.report.specs.Quantified.{Quantified, partOf, partsOf, putBack, callOf, answerTo, partsAfter, resultsAfter}
 use Rattle.report.specs.Report.{refusalText, printed}
 
 -- No line with a number of 64 bits is longer than its key and 21 bytes.
@@ -139,7 +139,7 @@ module _ (h : Header) (r : Rows) (s : Devices.Rows) (o p q : ℕ)
         content = after .content ++ drop q (s .content);
       })
       a
-  unfolding answerTo resultsAfter
+  unfolding answerTo partsAfter
   quantified-is after a x =
       record {
         answer = x .answer ∙ ap (λ (c : Call). answerBy (judged c) c) call-is;

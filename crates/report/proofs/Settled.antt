@@ -42,6 +42,7 @@ report-cut t m before after old new n long x =
       read = read-cut t m (readerRows before) (x .rows) long (x .answer) (x .read);
       written = x .written;
       lent = x .lent;
+      settled = x .settled;
       whatever = λ k e. whole k e (x .whatever k e);
     }
   where

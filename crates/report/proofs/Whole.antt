@@ -18,7 +18,8 @@ use Rattle.checks.specs.Call.{Call}
 use Rattle.checks.specs.Steps.{judged}
 use Rattle.checks.proofs.Laws.{within-most}
 use Rattle.devices.specs.Devices as Devices
-use Rattle.quantify.specs.Promise.{answerBy}
+use Rattle.quantify.specs.Promise.{answerBy, Settled}
+use Rattle.quantify.proofs.Settling.{settled-call}
 use Rattle.quantify.specs.declared.Answer.{Answer}
 use Rattle.record_form.specs.Field as Field
 use Rattle.record_form.specs.Plan.{Line, lineIs}
@@ -32,7 +33,7 @@ use Rattle.record.specs.declared.Header.{Header}
 use Rattle.record.specs.declared.ReadAnswer.{ReadAnswer}
 use Rattle.record.specs.declared.ReadAnswer.the-variants as ReadAnswer
 use Rattle.record.proofs.ReadAnswer as ReadAnswerType
-use Rattle.report.specs.Quantified.{Ready, Quantified, partOf, callOf, answerTo, resultsAfter}
+use Rattle.report.specs.Quantified.{Ready, Quantified, partOf, partsOf, partsAfter, callOf, answerTo, resultsAfter}
 use Rattle.report.specs.Report.{refusalText, printed, Lent, readerRows, outputOf, resultsOf, AsLong, Whatever, Reported}
 use Rattle.report.proofs.Laws.{lesser-first}
 
@@ -221,6 +222,11 @@ module _ (t : List ℕ) (k l : Lent) (e : AsLong k l) where
 
 -- ---- the whole
 
+settled-record : (h : Header) (r : Rows) (s : Devices.Rows)
+    → Settled (callOf h r s) (partsOf (h .devices * h .intervals) s) (partsAfter h r s) (answerTo h r s)
+unfolding partsAfter answerTo
+settled-record h r s = settled-call (callOf h r s) (partsOf (h .devices * h .intervals) s)
+
 abbrev pub lentAs : Rows → Devices.Rows → Lent
 lentAs r results = record { flow = r .flow; content = r .content; temp = r .temp; press = r .press; status = r .status; results = results }
 
@@ -228,7 +234,15 @@ module _ (t : List ℕ) (l : Lent) (rows : Rows) (old new : List ℕ) (n : ℕ) 
   pub reported : (a : ReadAnswer) → ReadRight t (readerRows l) rows a → Leads (outputOf a rows l) old new n
       → Reported t l (lentAs rows (resultsOf a rows l)) old new n
   reported a r w =
-      record { answer = a; rows = rows; read = r; written = w; lent = refl; whatever = λ k e. whatever-else t k l e rows a r }
+      record {
+        answer = a;
+        rows = rows;
+        read = r;
+        written = w;
+        lent = refl;
+        settled = λ h e. settled-record h rows (l .results);
+        whatever = λ k e. whatever-else t k l e rows a r;
+      }
 
   refusal : (a : ReadAnswer) (number device place : ℕ) → number ≡ Read.numberOf a → device ≡ Read.deviceOf a → place ≡ Read.placeOf a
       → Leads (refusalText number device place) old new n → Leads (refusalText (Read.numberOf a) 0 (Read.placeOf a)) old new n

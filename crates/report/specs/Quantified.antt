@@ -59,14 +59,15 @@ callOf h r results =
       content-row-length = partOf m (results .content);
     }
 
--- Document 01's answer to that call, and the result rows after it.
+-- Document 01's answer to that call, the parts of the result rows that it was lent after it, and the whole rows.
 unfoldable pub answerTo : Header → Rows → Devices.Rows → Answer
 answerTo h r results = answerBy (judged (callOf h r results)) (callOf h r results)
 
-unfoldable pub resultsAfter : Header → Rows → Devices.Rows → Devices.Rows
-resultsAfter h r results =
-    putBack (h .devices * h .intervals) results
-    (rowsBy (judged (callOf h r results)) (callOf h r results) (partsOf (h .devices * h .intervals) results))
+unfoldable pub partsAfter : Header → Rows → Devices.Rows → Devices.Rows
+partsAfter h r results = rowsBy (judged (callOf h r results)) (callOf h r results) (partsOf (h .devices * h .intervals) results)
+
+abbrev pub resultsAfter : Header → Rows → Devices.Rows → Devices.Rows
+resultsAfter h r results = putBack (h .devices * h .intervals) results (partsAfter h r results)
 
 -- The rows hold as many entries as the head asks for.
 pub record Ready (h : Header) (r : Rows) : Type 0 where

@@ -1,6 +1,6 @@
 -- What is printed for a text, for every text.
 -- Assumes nothing.
-use Prim.Native.Nat.{ℕ}
+use Prim.Native.Nat.{ℕ, _*_}
 use mathlib.Core.Path.{_≡_, refl}
 use mathlib.Core.List.{List, _++_}
 use lib.IntN.{ℤ, pos}
@@ -12,6 +12,7 @@ use Rattle.text.specs.Answer.{Leads}
 use Rattle.sheet_text.specs.Sheet.{textOf}
 use Rattle.checks.specs.Steps as Steps
 use Rattle.devices.specs.Devices as Devices
+use Rattle.quantify.specs.Promise.{Settled}
 use Rattle.quantify.specs.declared.Answer.{Answer}
 use Rattle.quantify.specs.declared.Answer.the-variants as Answer
 use Rattle.record_form.specs.Rows.{Rows}
@@ -19,7 +20,8 @@ use Rattle.record.specs.Read as Read
 use Rattle.record.specs.Read.{ReadRight}
 use Rattle.record.specs.declared.ReadAnswer.{ReadAnswer}
 use Rattle.record.specs.declared.ReadAnswer.the-variants as ReadAnswer
-use Rattle.report.specs.Quantified.{answerTo, resultsAfter}
+use Rattle.record.specs.declared.Header.{Header}
+use Rattle.report.specs.Quantified.{callOf, partsOf, partsAfter, answerTo, resultsAfter}
 
 -- "On refusal it prints three key=value lines, refusal, device and place"
 unfoldable pub refusalText : ℕ → ℕ → ℕ → List ℕ
@@ -95,7 +97,8 @@ pub record Whatever (t : List ℕ) (l : Lent) (w : List ℕ) : Type 0 where
   pub output : w ≡ outputOf answer rows l
 
 -- The whole job: the text is read as ReadRight says, the output of what was read stands at the buffer's start, nothing else there
--- has changed, and every lent row holds what reading and quantification leave in it.
+-- has changed, and every lent row holds what reading and quantification leave in it. A record's answer and result rows have all that
+-- quantification promises, demand 3 with it (quantify/specs/Promise.antt, `Settled`).
 pub record Reported (t : List ℕ) (before after : Lent) (old new : List ℕ) (n : ℕ) : Type 0 where
   pub answer : ReadAnswer
   pub rows : Rows
@@ -110,6 +113,9 @@ pub record Reported (t : List ℕ) (before after : Lent) (old new : List ℕ) (n
         status = rows .status;
         results = resultsOf answer rows before;
       }
+  pub settled : (h : Header) → answer ≡ ReadAnswer.Record h
+      → Settled (callOf h rows (before .results)) (partsOf (h .devices * h .intervals) (before .results)) (partsAfter h rows (before .results))
+      (answerTo h rows (before .results))
   pub whatever : (other : Lent) → AsLong other before → Whatever t other (outputOf answer rows before)
 
 -- a line that is wrong, as it is printed
