@@ -26,7 +26,7 @@ use Rattle.record_form.specs.Plan.{Line, lineIs}
 use Rattle.record_form.specs.Rows.{Rows, stored, roomOf, lesser}
 use Rattle.record_form.specs.File.{Record, Fine, file}
 use Rattle.record_form.proofs.Parts.{withHead}
-use Rattle.record_form.proofs.Covered.{Roomy, Alike, SameLong, covered, stored-long}
+use Rattle.record_form.proofs.Covered.{SeriesRoom, Alike, SameLong, covered, stored-long}
 use Rattle.record.specs.Read as Read
 use Rattle.record.specs.Read.{ReadRight, Accepted, Outside, Wrong}
 use Rattle.record.specs.declared.Header.{Header}
@@ -55,7 +55,7 @@ room-first a b c d e m h =
     let t : m ≤ lesser d e = omega (arith, s, lesser-second c (lesser d e)) in
     (x, y, z, omega (arith, t, lesser-first d e _ refl), omega (arith, t, lesser-second d e))
 
-pub roomy : (r : Rows) (m : ℕ) → m ≤ roomOf r → Roomy m r
+pub roomy : (r : Rows) (m : ℕ) → m ≤ roomOf r → SeriesRoom m r
 roomy r m h =
     let x : (m ≤ length (r .flow)) × (m ≤ length (r .content)) × (m ≤ length (r .temp)) × (m ≤ length (r .press)) × (m ≤ length (r .status)) =
     room-first (length (r .flow)) (length (r .content)) (length (r .temp)) (length (r .press)) (length (r .status)) m h in
@@ -75,7 +75,7 @@ module _ (t : List ℕ) (l : Lent) (after : Rows) (h : Header) (x : Accepted t (
   fuels-few : h .fuels ≤ 64
   fuels-few = few-in (h .intervals) (h .devices) (h .mine) (h .fuels) (x .rest) (subst Record (x .head) (x .follows))
 
-  room-of : Roomy (h .intervals * h .devices) (readerRows l)
+  room-of : SeriesRoom (h .intervals * h .devices) (readerRows l)
   room-of = roomy (readerRows l) (h .intervals * h .devices) (x .limits .entries)
 
   pub ready : Ready h after
