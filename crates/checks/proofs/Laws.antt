@@ -14,8 +14,9 @@ use Rattle.rows.specs.Rows.{both, either, FirstOf}
 use Rattle.rows.proofs.Laws.{both-true}
 use Rattle.protocol.specs.Kinds.{isKind, misplaced}
 use Rattle.protocol.specs.Ranges.{flowRight, contentRight, tempRight, pressRight, statusRight, driftRight}
+use Rattle.readings.specs.Readings.{wrongReading}
 use Rattle.checks.specs.Call.{Call}
-use Rattle.checks.specs.Steps.{intervalsStep, devicesStep, lengthsOf, wantedOf, lengthsStep, mineStep, kindsStep, misplacedStep, wrongCheck, wrongThing, checksStep, wrongReading, readingsStep, wrongFuel, fuelsStep, verdictOf, valueSteps, stepsOf, judged}
+use Rattle.checks.specs.Steps.{intervalsStep, devicesStep, lengthsOf, wantedOf, lengthsStep, mineStep, kindsStep, misplacedStep, wrongCheck, wrongThing, checksStep, readingsStep, wrongFuel, fuelsStep, verdictOf, valueSteps, stepsOf, judged}
 use Rattle.checks.specs.Accepted.{Clear, AllClear, Refuses, Shaped, Accepted}
 use Rattle.checks.specs.declared.Refusal.{Refusal}
 use Rattle.checks.specs.declared.Verdict.the-variants.{Clean, Refused}

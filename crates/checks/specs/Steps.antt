@@ -9,7 +9,8 @@ use lib.IntN.{ℤ, pos}
 use lib.ListN.{length, getD}
 use Rattle.rows.specs.Rows.{pick, both, either, first}
 use Rattle.protocol.specs.Kinds.{isKind, isMine, misplaced}
-use Rattle.protocol.specs.Ranges.{intervalsMost, devicesMost, fromOne, flowRight, contentRight, tempRight, pressRight, statusRight, driftRight}
+use Rattle.protocol.specs.Ranges.{intervalsMost, devicesMost, fromOne, driftRight}
+use Rattle.readings.specs.Readings.{wrongReading}
 use Rattle.checks.specs.Call.{Call}
 use Rattle.checks.specs.declared.Refusal.{Refusal}
 use Rattle.checks.specs.declared.Refusal.the-variants.{Intervals, Devices, Lengths, Mine, Kind, Misplaced, Check, Reading, Fuel}
@@ -138,15 +139,7 @@ checksStep c =
       refusal = λ k. Check (k / 66) (checkPlace (k % 33));
     }
 
--- "8 | a reading is neither in range nor its missing mark": the five series of one device-interval
-unfoldable pub wrongReading : List ℕ → List ℕ → List ℤ → List ℕ → List ℕ → ℕ → Bool
-wrongReading flow content temp press status k =
-    not (both (flowRight (getD flow k 0))
-    (both (contentRight (getD content k 0))
-    (both (tempRight (getD temp k (pos 0)))
-    (both (pressRight (getD press k 0))
-    (statusRight (getD status k 0))))))
-
+-- "8 | a reading is neither in range nor its missing mark"
 unfoldable pub readingsStep : Call → Step
 readingsStep c =
     record {
