@@ -96,13 +96,13 @@ fn lacks(temp: i16, press: u32) -> bool
 
 // Whether an interval is counted as outcome 0: the device ran and nothing is missing. Ruled out: status 3 taken for running; a pressure of 0 taken
 // for a reading.
-fn all_measured(flow: u16, content: u16, temp: i16, press: u32, status: u8) -> bool
-    ensures { λ r. ⌜ r ≡ allMeasured flow content temp press status ⌝ }
+fn all_measured(flow: u16, content: u16, temp: i16, press: u32, code: u8) -> bool
+    ensures { λ r. ⌜ r ≡ allMeasured flow content temp press code ⌝ }
 {
-    if status == 0 {
+    if code == 0 {
         return false;
     }
-    if status == 3 {
+    if code == 3 {
         return false;
     }
     if lacks(temp, press) {
