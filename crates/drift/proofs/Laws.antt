@@ -44,6 +44,10 @@ kept-none reading i = go (missing (getD reading i mark)) refl
     go true e = kept-missing 0 reading i e ∙ sym (eqb-true (getD reading i mark) mark e)
     go false e = kept-measured 0 reading i e ∙ corrected-none (getD reading i mark)
 
+-- as the code copies it: its reads have 0 outside the row
+pub kept-copied : (reading : List ℕ) (i : ℕ) → i < length reading → getD reading i 0 ≡ keptOr 0 reading i
+kept-copied reading i h = inside-row reading i 0 mark h ∙ sym (kept-none reading i)
+
 -- the two cases as the code meets them: its reads have 0 outside the row, and it divides by 10,000 and the drift
 module _ (e : ℕ) (reading : List ℕ) (i : ℕ) (h : i < length reading) where
   pub kept-marks : getD reading i 0 ≡ mark → getD reading i 0 ≡ keptOr (e - 10000) reading i

@@ -57,6 +57,12 @@ pub stored : (a i v : ℕ) (g : ℕ → ℕ) (old new : List ℕ) → a ≤ i �
 stored a i v g old new l m e c =
     subst (λ (w : ℕ). Continued a (i + 1) g old (set new i w)) (sym e) (continued-more a i g old new l m c)
 
+-- a divisor of 10,000 takes nothing out
+pub undivided : (e : ℕ) (reading : List ℕ) {a z : ℕ} {old new : List ℕ} → e ≡ 10000 → Continued a z (keptOr 0 reading) old new
+    → Continued a z (keptOr (e - 10000) reading) old new
+undivided e reading {a} {z} {old} {new} h c =
+    subst (λ (d : ℕ). Continued a z (keptOr d reading) old new) (let w : 0 ≡ e - 10000 = omega arith in w) c
+
 -- by how much check m reads high, if it stands at or after start
 abbrev pub excessFrom : Instrument → ℕ → ℕ → ℕ
 excessFrom c start m = pick (leb start (positionOf c m)) (excess c m) 0

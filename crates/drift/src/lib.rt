@@ -30,11 +30,27 @@ fn scaled(v: u64, divisor: u64) -> u64
     v * 10000 / divisor
 }
 
+// The readings from start up to end as they are: where no drift was found nothing is divided.
+fn copied(reading: &[u16], start: usize, end: usize, used: &mut [u16])
+    requires { ⌜ (start ≤ end) × (end ≤ length (now reading)) × (length (now used) ≡ length (now reading)) ⌝ }
+    ensures { λ r. ⌜ Continued start end (keptOr 0 (now (reading .entry))) (now (used .entry)) (now (used .exit)) ⌝ }
+{
+    let mut i = start;
+    while i < end {
+        used[i] = reading[i];
+        i += 1;
+    }
+}
+
 // The readings from start up to end, with a drift of divisor - 10,000 taken out.
 fn stretch(reading: &[u16], start: usize, end: usize, divisor: u64, used: &mut [u16])
     requires { ⌜ (start ≤ end) × (end ≤ length (now reading)) × (length (now used) ≡ length (now reading)) × (10000 ≤ divisor) ⌝ }
     ensures { λ r. ⌜ Continued start end (keptOr (divisor - 10000) (now (reading .entry))) (now (used .entry)) (now (used .exit)) ⌝ }
 {
+    if divisor == 10000 {
+        copied(reading, start, end, used);
+        return;
+    }
     let mut i = start;
     while i < end {
         let v = reading[i];

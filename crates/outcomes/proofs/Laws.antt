@@ -18,7 +18,7 @@ use Rattle.volume.specs.Volume.{methaneLitres, Inside, litresMost}
 use Rattle.volume.proofs.Laws.{methane-litres-most, no-flow}
 use Rattle.runs.specs.Runs.{excluding}
 use Rattle.outcomes.specs.declared.Sums.{Sums}
-use Rattle.outcomes.specs.Outcomes.{outcomes, outcomeOf, counted, litresFor, heldOutcome, entryOf, entryAt, sumsOf, Held, Holds, Ready, ReadyAt, Finished}
+use Rattle.outcomes.specs.Outcomes.{outcomes, outcomeOf, allMeasured, counted, litresFor, heldOutcome, entryOf, entryAt, sumsOf, Held, Holds, Ready, ReadyAt, Finished}
 
 clash : {X : Type 0} {b : Bool} → b ≡ true → b ≡ false → X
 clash p q = let z : _≡_ {A = ℕ} 0 1 = cc in absurd (let w : ⊥ = omega arith in w)
@@ -56,6 +56,15 @@ counts false false false true false false a b h = record { has = refl; flow-foun
 counts false false false false true true a b h = too-many 7 (omega arith) h
 counts false false false false true false a b h = record { has = refl; flow-found = λ e. clash e refl; content-found = λ e. h }
 counts false false false false false r a b h = record { has = refl; flow-found = λ e. clash e refl; content-found = λ e. clash e refl }
+
+-- nothing is missing: outcome 0, whatever else there is
+whole : (s u l f c r : Bool) (a b : ℕ) → not (either s (either u (either l (either f c)))) ≡ true → 0 ≡ ordered s u l f c r a b
+whole true u l f c r a b e = clash e refl
+whole false true l f c r a b e = clash e refl
+whole false false true f c r a b e = clash e refl
+whole false false false true c r a b e = clash e refl
+whole false false false false true r a b e = clash e refl
+whole false false false false false r a b e = refl
 
 few : (s u l f c r : Bool) (a b : ℕ) → a < 10 → b < 10 → ordered s u l f c r a b < 10
 few true u l f c r a b h k = omega arith
@@ -122,6 +131,13 @@ abbrev pub outcomeFor : ℕ → ℕ → ℤ → ℕ → ℕ → ℕ → ℕ → 
 outcomeFor flow content temp press status flowHeld contentHeld =
     outcomeOf status (either (tempMissing temp) (pressMissing press)) (eqb flow mark) (eqb content mark)
     (heldOutcome 1 flowHeld) (heldOutcome 2 contentHeld)
+
+-- where everything is measured that is 0, whatever is held
+pub measured-outcome : (flow content : ℕ) (temp : ℤ) (press status flowHeld contentHeld : ℕ) → allMeasured flow content temp press status ≡ true
+    → 0 ≡ outcomeFor flow content temp press status flowHeld contentHeld
+unfolding outcomeOf allMeasured
+measured-outcome flow content temp press status flowHeld contentHeld e =
+    whole (eqb status 0) (eqb status 3) (either (tempMissing temp) (pressMissing press)) (eqb flow mark) (eqb content mark) (eqb status 1) (heldOutcome 1 flowHeld) (heldOutcome 2 contentHeld) e
 
 module _ (flow content : ℕ) (temp : ℤ) (press status flowHeld contentHeld : ℕ) (x : Ready flow content temp press flowHeld contentHeld) where
   -- the values of a counted interval are in range, so that its litres fit

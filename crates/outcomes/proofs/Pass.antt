@@ -9,17 +9,19 @@ use native.Mathlib.Numerals.{add-one}
 use native.Mathlib.Omega.{arith}
 use borrow.Author.Tests.{eqb-true, eqb-false}
 use lib.Dec.{eqb}
+use mir.Syntax.{w64}
+use mir.Val.{Fits}
 use lib.IntN.{ℤ, pos}
 use lib.ListN.{length, getD, drop, set, length-set, length-append, length-drop, replicate}
-use lib.Seq.{drop-cons, getD-at, getD-set-same, getD-set-other, ext-getD}
+use lib.Seq.{drop-cons, getD-at, getD-set-same, getD-set-other, set-getD, ext-getD}
 use Rattle.rows.specs.Rows.{pick, build, sumTo, countOf, hit}
 use Rattle.rows.proofs.Laws.{build-step, build-done, length-build, getD-build, getD-inside}
 use Rattle.rows.proofs.Sums.{hit-same, hit-other, sumTo-bound}
-use Rattle.protocol.specs.Ranges.{mark}
-use Rattle.volume.specs.Volume.{litresMost}
+use Rattle.protocol.specs.Ranges.{mark, contentMost}
+use Rattle.volume.specs.Volume.{methaneLitres, Inside, litresMost}
 use Rattle.outcomes.specs.declared.Entry.{Entry}
-use Rattle.outcomes.specs.Outcomes.{outcomes, entryOf, entryAt, sumsOf, Held, Ready, ReadyAt, Finished}
-use Rattle.outcomes.proofs.Laws.{outcome-of-ten, litres-of-entry, methane-to}
+use Rattle.outcomes.specs.Outcomes.{outcomes, allMeasured, entryOf, entryAt, sumsOf, Held, Ready, ReadyAt, Finished}
+use Rattle.outcomes.proofs.Laws.{outcomeFor, measured-outcome, counted-inside, counted-entry, outcome-of-ten, litres-of-entry, methane-to}
 
 pub record Going (h : Held) (n : ℕ) (old o f c counts : List ℕ) (methane i : ℕ) : Type 0 where
   pub ready : ReadyAt h n
@@ -63,10 +65,30 @@ module _ {h : Held} {n : ℕ} {old o f c counts : List ℕ} {methane i : ℕ} (x
   reads-ready t e = rw (e, at-flow, at-content, at-flow-held, at-content-held) (x .ready .ready i l)
 
   -- and its entry is the interval's
-  pub reads-entry : (t : ℤ) → t ≡ getD (h .temp) i (pos 0)
-      → entryOf (getD (h .flow) i 0) (getD (h .content) i 0) t (getD (h .press) i 0) (getD (h .status) i 0) (getD f i 0) (getD c i 0) ≡ entryAt h i
+  pub reads-entry : (t : ℤ) → t ≡ getD (h .temp) i (pos 0) → (r : Entry)
+      → r ≡ entryOf (getD (h .flow) i 0) (getD (h .content) i 0) t (getD (h .press) i 0) (getD (h .status) i 0) (getD f i 0) (getD c i 0) → r ≡ entryAt h i
   unfolding entryAt
-  reads-entry t e = rw (e, at-flow, at-content, at-flow-held, at-content-held)
+  reads-entry t e r q = rw (e, at-flow, at-content, at-flow-held, at-content-held) at q
+
+  -- where the code answered that everything is measured, what is held is in range, and it is the entry
+  module _ (t : ℤ) (e : t ≡ getD (h .temp) i (pos 0)) (b : Bool)
+      (q : b ≡ allMeasured (getD (h .flow) i 0) (getD (h .content) i 0) t (getD (h .press) i 0) (getD (h .status) i 0)) (m : b ≡ true) where
+    none : 0 ≡ outcomeFor (getD (h .flow) i 0) (getD (h .content) i 0) t (getD (h .press) i 0) (getD (h .status) i 0) (getD f i 0) (getD c i 0)
+    none =
+        measured-outcome (getD (h .flow) i 0) (getD (h .content) i 0) t (getD (h .press) i 0) (getD (h .status) i 0) (getD f i 0) (getD c i 0)
+        (sym q ∙ m)
+
+    pub measured-inside : Inside (getD f i 0) t (getD (h .press) i 0) × (getD c i 0 ≤ contentMost)
+    measured-inside =
+        counted-inside (getD (h .flow) i 0) (getD (h .content) i 0) t (getD (h .press) i 0) (getD (h .status) i 0) (getD f i 0) (getD c i 0)
+        (reads-ready t e) (subst (λ (k : ℕ). k < 3) none (let w : 0 < 3 = omega arith in w))
+
+    pub measured-entry : (litres : ℕ) → litres ≡ methaneLitres (getD f i 0) (getD c i 0) t (getD (h .press) i 0)
+        → record { outcome = 0; flow = getD f i 0; content = getD c i 0; litres = litres } ≡ entryAt h i
+    measured-entry litres z =
+        reads-entry t e (record { outcome = 0; flow = getD f i 0; content = getD c i 0; litres = litres })
+        (counted-entry (getD (h .flow) i 0) (getD (h .content) i 0) t (getD (h .press) i 0) (getD (h .status) i 0) (getD f i 0) (getD c i 0)
+        0 none (omega arith) litres z)
 
 -- ---- start, step and end
 
@@ -150,6 +172,16 @@ module _ {h : Held} {n : ℕ} {old o f c counts : List ℕ} {methane i : ℕ} (x
         sum = sum-more i (λ k. entryAt h k .litres) methane (e .litres) (x .sum) (ap (λ (y : Entry). y .litres) q);
       }
 
+  -- an entry whose values the rows hold already: they stay as they are
+  pub going-kept : i < n → (e : Entry) → e ≡ entryAt h i → e .flow ≡ getD f i 0 → e .content ≡ getD c i 0
+      → Going h n old (set o i (e .outcome)) f c (set counts (e .outcome) (getD counts (e .outcome) 0 + 1)) (methane + e .litres) (i + 1)
+  going-kept l e q a b =
+      subst (λ (r : List ℕ). Going h n old (set o i (e .outcome)) r c (set counts (e .outcome) (getD counts (e .outcome) 0 + 1)) (methane + e .litres) (i + 1))
+      (ap (set f i) a ∙ set-getD f i 0)
+      (subst (λ (r : List ℕ). Going h n old (set o i (e .outcome)) (set f i (e .flow)) r (set counts (e .outcome) (getD counts (e .outcome) 0 + 1)) (methane + e .litres) (i + 1))
+      (ap (set c i) b ∙ set-getD c i 0)
+      (going-more l e q))
+
   -- the sums so far leave room for one more interval
   pub methane-room : i < n → (e : Entry) → e ≡ entryAt h i → methane + e .litres ≤ 35137 * litresMost
   methane-room l e q =
@@ -160,12 +192,14 @@ module _ {h : Held} {n : ℕ} {old o f c counts : List ℕ} {methane i : ℕ} (x
       let v : entryAt h i .litres ≤ litresMost = litres-of-entry h n (x .ready) i l in
       omega arith
 
-  pub count-room : i < n → (e : Entry) → e ≡ entryAt h i → getD counts (e .outcome) 0 + 1 ≤ 35137
-  count-room l e q =
-      let a : countOf i (λ k. entryAt h k .outcome) (e .outcome) ≤ i * 1 = count-most i (λ k. entryAt h k .outcome) (e .outcome) in
-      let b : getD counts (e .outcome) 0 ≡ countOf i (λ k. entryAt h k .outcome) (e .outcome) = x .each (e .outcome) (going-few l e q) in
+  -- whichever count it is
+  pub slot-fits : (k : ℕ) → k < 10 → Fits w64 (getD counts k 0 + 1)
+  slot-fits k l =
+      let a : countOf i (λ m. entryAt h m .outcome) k ≤ i * 1 = count-most i (λ m. entryAt h m .outcome) k in
+      let b : getD counts k 0 ≡ countOf i (λ m. entryAt h m .outcome) k = x .each k l in
+      let w : i ≤ n = x .within in
       let m : n ≤ 35136 = x .ready .few in
-      omega arith
+      record { fits = omega arith }
 
   pub length-rows : (length o ≡ n) × (length f ≡ n) × (length c ≡ n)
   length-rows = (

@@ -2,7 +2,7 @@
 -- Assumes nothing.
 use Prim.Native.Nat.{ℕ, _+_, _-_, _≤_, _<_}
 use mathlib.Core.Path.{_≡_, refl}
-use mathlib.Core.Bool.{Bool, true, false}
+use mathlib.Core.Bool.{Bool, true, false, not}
 use mathlib.Core.List.{List}
 use lib.Dec.{eqb, ltb}
 use lib.IntN.{ℤ, pos}
@@ -31,6 +31,14 @@ outcomeOf status lacking noFlow noContent byFlow byContent =
     (pick noFlow byFlow
     (pick noContent byContent
     0))))))
+
+-- "0 both measured": the device ran, and neither a reading nor temperature or pressure is missing
+unfoldable pub allMeasured : ℕ → ℕ → ℤ → ℕ → ℕ → Bool
+allMeasured flow content temp press status =
+    not (either (eqb status 0)
+    (either (eqb status 3)
+    (either (either (tempMissing temp) (pressMissing press))
+    (either (eqb flow mark) (eqb content mark)))))
 
 -- outcomes 0, 1 and 2 are counted, the others exclude the interval
 abbrev pub counted : ℕ → Bool
@@ -140,3 +148,16 @@ long = refl
 measured : outcomeOf 1 false false false 1 2 ≡ 0
 unfolding outcomeOf
 measured = refl
+
+-- a running device with everything measured; no record of status; no pressure
+whole : allMeasured 1000 5000 (pos 2000) 101325 1 ≡ true
+unfolding allMeasured
+whole = refl
+
+no-status : allMeasured 1000 5000 (pos 2000) 101325 3 ≡ false
+unfolding allMeasured
+no-status = refl
+
+no-pressure : allMeasured 1000 5000 (pos 2000) 0 1 ≡ false
+unfolding allMeasured
+no-pressure = refl

@@ -7,6 +7,7 @@ ghost use Rattle.rows.specs.Rows.{pick, either};
 ghost use Rattle.protocol.specs.Ranges.{tempMissing, pressMissing};
 ghost use Rattle.outcomes.specs.Outcomes.{
   outcomeOf,
+  allMeasured,
   heldOutcome,
   entryOf,
   entryAt,
@@ -93,6 +94,26 @@ fn lacks(temp: i16, press: u32) -> bool
     press == 0
 }
 
+// Whether an interval is counted as outcome 0: the device ran and nothing is missing. Ruled out: status 3 taken for running; a pressure of 0 taken
+// for a reading.
+fn all_measured(flow: u16, content: u16, temp: i16, press: u32, code: u8) -> bool
+    ensures { λ r. ⌜ r ≡ allMeasured flow content temp press code ⌝ }
+{
+    if code == 0 {
+        return false;
+    }
+    if code == 3 {
+        return false;
+    }
+    if lacks(temp, press) {
+        return false;
+    }
+    if flow == MISSING {
+        return false;
+    }
+    content != MISSING
+}
+
 // One interval. Ruled out: an excluded interval with a value; litres without the content.
 pub fn settle(
     flow: u16,
@@ -175,22 +196,31 @@ pub fn finish(
     let mut methane = 0;
     let mut i = 0;
     while i < n {
-        let e = settle(
-            flow[i],
-            content[i],
-            temp[i],
-            press[i],
-            status[i],
-            flow_used[i],
-            content_used[i],
-        );
-        let o = e.outcome;
-        outcomes[i] = o;
-        flow_used[i] = e.flow;
-        content_used[i] = e.content;
-        counts[o as usize] = counts[o as usize] + 1;
-        methane = methane + e.litres;
-        i += 1;
+        if all_measured(flow[i], content[i], temp[i], press[i], status[i]) {
+            // The commonest interval: its values stand in the rows already.
+            let litres = volume::methane_litres(flow_used[i], content_used[i], temp[i], press[i]);
+            outcomes[i] = 0;
+            counts[0] = counts[0] + 1;
+            methane = methane + litres;
+            i += 1;
+        } else {
+            let e = settle(
+                flow[i],
+                content[i],
+                temp[i],
+                press[i],
+                status[i],
+                flow_used[i],
+                content_used[i],
+            );
+            let o = e.outcome;
+            outcomes[i] = o;
+            flow_used[i] = e.flow;
+            content_used[i] = e.content;
+            counts[o as usize] = counts[o as usize] + 1;
+            methane = methane + e.litres;
+            i += 1;
+        }
     }
     Sums { counts, methane }
 }

@@ -1,14 +1,15 @@
 -- `drift::passed` meets its contract: the two tests of a range of signed numbers.
 -- Assumes nothing.
 use mathlib.Core.Path.{sym}
+use native.Mathlib.Omega.{arith}
 use lib.IntN.{pos, negsuc}
 use mir.Syntax.{w32}
-use Rattle.protocol.proofs.SignedLaws.{below-range, above-range}
+use Rattle.protocol.proofs.SignedLaws.{under-range, above-range}
 use Rattle.drift.proofs.passed.Statement.{statement}
 use Rattle.drift.proofs.passed.Tie as tie
 
 returns : tie.Need-returns
-returns c = sym (below-range w32 (negsuc 498) (pos 499) (c .before .args .drift) (c .before .fits .drift) (c .if1 .taken))
+returns c = sym (under-range w32 498 _ (pos 499) (c .before .args .drift) (c .before .fits .drift) (omega arith) (c .if1 .taken))
 
 returns-2 : tie.Need-returns-2
 returns-2 c = above-range w32 (negsuc 498) (pos 499) (c .before .args .drift) (c .before .fits .drift) (c .if1 .left)

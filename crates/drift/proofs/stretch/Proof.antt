@@ -8,7 +8,7 @@ use lib.ListN.{length, getD}
 use Rattle.rows.specs.Rows.{Continued}
 use Rattle.drift.specs.Drift.{keptOr}
 use Rattle.drift.proofs.Laws.{kept-marks, kept-divides, quotient-le}
-use Rattle.drift.proofs.Walk.{stored}
+use Rattle.drift.proofs.Walk.{stored, undivided}
 use Rattle.drift.proofs.stretch.Statement.{statement}
 use Rattle.drift.proofs.stretch.Tie as tie
 
@@ -19,6 +19,15 @@ Inv-loop reading start end divisor used₀ i₀ used i =
 
 abbrev μ-loop : tie.MeasureT-loop
 μ-loop reading start end divisor used₀ i₀ used i = end - i
+
+copied-requires : tie.Need-copied-requires Inv-loop μ-loop
+copied-requires c κs = search needs
+
+same-length : tie.Need-same-length Inv-loop μ-loop
+same-length c = search needs
+
+returns : tie.Need-returns Inv-loop μ-loop
+returns c = undivided (c .before .before .before .before .before .before .before .args .divisor) _ (c .before .before .before .before .if1 .taken) (c .before .before .copied .ensures)
 
 loop-holds : tie.Need-loop-holds Inv-loop μ-loop
 loop-holds c = search needs
@@ -49,8 +58,8 @@ loop-again c = (
   search needs,
   search needs,
   search needs,
-  stored _ (c .before .before .before .loop .i) _ (keptOr (c .before .before .before .before .before .before .args .divisor - 10000) (c .before .before .before .before .before .before .args .reading .now)) _ (c .before .before .before .loop .used) (omega arith) (omega arith)
-      (kept-marks (c .before .before .before .before .before .before .args .divisor) (c .before .before .before .before .before .before .args .reading .now) (c .before .before .before .loop .i) (omega arith) (c .if1 .taken))
+  stored _ (c .before .before .before .loop .i) _ (keptOr (c .before .before .before .before .before .before .before .args .divisor - 10000) (c .before .before .before .before .before .before .before .args .reading .now)) _ (c .before .before .before .loop .used) (omega arith) (omega arith)
+      (kept-marks (c .before .before .before .before .before .before .before .args .divisor) (c .before .before .before .before .before .before .before .args .reading .now) (c .before .before .before .loop .i) (omega arith) (c .if2 .taken))
       (c .before .before .before .loop .inv .6),
 )
 
@@ -63,7 +72,7 @@ scaled-requires c κs = let h = c .before .shared-slice-known2 .given (c .before
 cast-used : tie.Need-cast-used Inv-loop μ-loop
 cast-used c =
     let h = c .before .before .shared-slice-known2 .given (c .before .before .before .before .loop .i) in
-    let q = quotient-le (c .before .before .before .before .before .before .before .args .divisor) (getD (c .before .before .before .before .before .before .before .args .reading .now) (c .before .before .before .before .loop .i) 0) (omega arith) in
+    let q = quotient-le (c .before .before .before .before .before .before .before .before .args .divisor) (getD (c .before .before .before .before .before .before .before .before .args .reading .now) (c .before .before .before .before .loop .i) 0) (omega arith) in
     let r = c .scaled .ensures in search needs
 
 mul-used-2 : tie.Need-mul-used-2 Inv-loop μ-loop
@@ -86,17 +95,17 @@ loop-again-2 c = (
   search needs,
   search needs,
   search needs,
-  stored _ (c .before .before .before .before .loop .i) _ (keptOr (c .before .before .before .before .before .before .before .args .divisor - 10000) (c .before .before .before .before .before .before .before .args .reading .now)) _ (c .before .before .before .before .loop .used) (omega arith) (omega arith)
-      (c .scaled .ensures ∙ kept-divides (c .before .before .before .before .before .before .before .args .divisor) (c .before .before .before .before .before .before .before .args .reading .now) (c .before .before .before .before .loop .i) (omega arith) (omega arith) (c .before .if1 .left))
+  stored _ (c .before .before .before .before .loop .i) _ (keptOr (c .before .before .before .before .before .before .before .before .args .divisor - 10000) (c .before .before .before .before .before .before .before .before .args .reading .now)) _ (c .before .before .before .before .loop .used) (omega arith) (omega arith)
+      (c .scaled .ensures ∙ kept-divides (c .before .before .before .before .before .before .before .before .args .divisor) (c .before .before .before .before .before .before .before .before .args .reading .now) (c .before .before .before .before .loop .i) (omega arith) (omega arith) (c .before .if2 .left))
       (c .before .before .before .before .loop .inv .6),
 )
 
-same-length : tie.Need-same-length Inv-loop μ-loop
-same-length c = search needs
+same-length-2 : tie.Need-same-length-2 Inv-loop μ-loop
+same-length-2 c = search needs
 
-returns : tie.Need-returns Inv-loop μ-loop
-returns c = subst (λ (m : ℕ). Continued (c .before .before .before .before .args .start) m (keptOr (c .before .before .before .before .args .divisor - 10000) (c .before .before .before .before .args .reading .now)) (c .before .before .before .before .args .used .now) (c .before .loop .used))
-    (let w : c .before .loop .i ≡ c .before .before .before .before .args .end = omega arith in w) (c .before .loop .inv .6)
+returns-2 : tie.Need-returns-2 Inv-loop μ-loop
+returns-2 c = subst (λ (m : ℕ). Continued (c .before .before .before .before .before .args .start) m (keptOr (c .before .before .before .before .before .args .divisor - 10000) (c .before .before .before .before .before .args .reading .now)) (c .before .before .before .before .before .args .used .now) (c .before .loop .used))
+    (let w : c .before .loop .i ≡ c .before .before .before .before .before .args .end = omega arith in w) (c .before .loop .inv .6)
 
 pub stretch-spec : {M : Type 1} → statement M
 stretch-spec =
@@ -104,6 +113,9 @@ stretch-spec =
     (tie.spec
     Inv-loop
     μ-loop
+    copied-requires
+    same-length
+    returns
     loop-holds
     mul-v
     shared-slice-read-v
@@ -120,5 +132,5 @@ stretch-spec =
     add-i-2
     loop-less-2
     loop-again-2
-    same-length
-    returns)
+    same-length-2
+    returns-2)

@@ -1,5 +1,6 @@
-use Prim.Native.Nat.{ℕ, _*_, _/_}
-use mathlib.Core.Path.{_≡_, ap, _∙_}
+use Prim.Native.Nat.{ℕ, _*_, _/_, _<_}
+use mathlib.Core.Path.{_≡_, sym, ap, _∙_, subst}
+use lib.IntN.{ℤ}
 use native.Mathlib.Omega.{arith}
 use mir.Facts.{toZ-ofZ}
 use borrow.Author.Needs.{needs}
@@ -10,7 +11,9 @@ use Rattle.volume.proofs.litres.Statement.{statement}
 use Rattle.volume.proofs.litres.Tie as tie
 
 kelvin-requires : tie.Need-kelvin-requires
-kelvin-requires c κs = search needs
+kelvin-requires c κs =
+    subst (λ (z : ℤ). 0 < kelvinOf z) (sym (toZ-ofZ (c .fits .temp)))
+    (let w : 0 < kelvinOf (c .args .temp) = omega (arith, c .pre .kelvin-least) in w)
 
 mul-result : tie.Need-mul-result
 mul-result c = search needs
