@@ -5,7 +5,7 @@ use mathlib.Core.Path.{_≡_, refl, sym, ap, _∙_, subst}
 use mathlib.Core.Bool.{Bool, true, false, not}
 use mathlib.Core.Logic.{⊎-elim}
 use mathlib.Core.List.{List, [], _∷_}
-use native.Mathlib.Nat.{add-zero, add-suc, suc-add, zero-add, le-refl, le-trans, le-step, le-antisymm, not-suc-le-zero, le-of-suc-le-suc, le-add-right, eq-or-lt-of-le, le-dest, lt-of-not-le}
+use native.Mathlib.Nat.{add-zero, add-suc, le-refl, le-step, le-antisymm, not-suc-le-zero, le-of-suc-le-suc, le-add-right, eq-or-lt-of-le, le-dest, lt-of-not-le}
 use native.Mathlib.Decide.{decLe}
 use native.Mathlib.Omega.{arith}
 use lib.Dec.{ltb, eqb}

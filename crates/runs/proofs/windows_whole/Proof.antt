@@ -1,10 +1,9 @@
-use Prim.Native.Nat.{ℕ, _+_, _-_, _*_, _≤_, _<_}
+use Prim.Native.Nat.{ℕ, _-_, _*_, _≤_}
 use mathlib.Core.Path.{_≡_, refl, sym, _∙_, subst}
 use mathlib.Core.Bool.{true}
 use native.Mathlib.Omega.{arith}
 use borrow.Author.Needs.{needs}
 use borrow.Author.Tests.{not-false, not-true}
-use lib.ListN.{length}
 use Rattle.runs.proofs.Look.{Measured, measured-none, measured-block, Looked, short-before, short-after, looked-none, looked-room, looked-side, looked-all, looked-fails}
 use Rattle.runs.proofs.windows_whole.Statement.{statement}
 use Rattle.runs.proofs.windows_whole.Tie as tie
