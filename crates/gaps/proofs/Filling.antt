@@ -1,20 +1,21 @@
 -- The pass over one series' gaps, as a loop's invariant: what stands before i is filled, what stands after it corrected only.
 -- Assumes nothing.
 use Prim.Native.Nat.{ℕ, zero, suc, _+_, _-_, _≤_, _<_}
-use mathlib.Core.Path.{_≡_, refl, sym, ap, ap₂, _∙_, subst}
+use mathlib.Core.Path.{_≡_, sym, ap, ap₂, _∙_, subst}
 use mathlib.Core.Bool.{Bool, true, false}
 use mathlib.Core.List.{List, [], _∷_, _++_, append-assoc}
-use native.Mathlib.Nat.{le-dest, lt-of-not-le}
+use native.Mathlib.Nat.{le-dest, lt-of-not-le, add-zero}
+use borrow.Author.Tests.{not-true}
 use native.Mathlib.Numerals.{add-one}
 use native.Mathlib.Decide.{decLe}
 use native.Mathlib.Omega.{arith}
 use lib.ListN.{length, getD, drop, length-append, length-drop, List·getD-append}
 use lib.Seq.{drop-cons, getD-append-add, getD-drop}
-use Rattle.rows.specs.Rows.{pick, build, Continued}
-use Rattle.rows.proofs.Laws.{length-build, getD-build, build-done}
+use Rattle.rows.specs.Rows.{pick, build, every, Continued}
+use Rattle.rows.proofs.Laws.{length-build, getD-build, build-done, every-at, every-all}
 use Rattle.protocol.specs.Ranges.{mark, flowMost}
-use Rattle.runs.specs.Runs.{missingAt, gapStart, gapEnd}
-use Rattle.runs.proofs.Laws.{start-zero, start-new, of-gap, end-most, end-measured, measured-inside}
+use Rattle.runs.specs.Runs.{missingAt, measuredAt, gapStart, gapEnd}
+use Rattle.runs.proofs.Laws.{start-zero, start-new, of-gap, end-most, end-measured}
 use Rattle.gaps.specs.Gaps.{replacementOf, replacementAt, heldFor, filledAt, Goes}
 use Rattle.gaps.proofs.Laws.{Agree, same-replacement}
 
@@ -140,3 +141,31 @@ module _ (reading corrected used : List ℕ) where
         v .filled
         ∙ ap (λ (m : ℕ). build m (filledAt reading corrected) ++ drop m corrected) e
         ∙ build-done (length reading) (filledAt reading corrected) corrected (v .goes .same-length)
+
+-- measured entries are passed over as they stand
+filling-on : (reading corrected used : List ℕ) (i n : ℕ) → Filling reading corrected used i → i + n ≤ length reading
+    → ((k : ℕ) → k < n → missingAt reading (i + k) ≡ false) → Filling reading corrected used (i + n)
+filling-on reading corrected used i zero v l m = subst (Filling reading corrected used) (sym (add-zero i)) v
+filling-on reading corrected used i (suc n) v l m =
+    subst (Filling reading corrected used) (let z : i + n + 1 ≡ i + suc n = omega arith in z)
+    (filling-measured reading corrected used (i + n)
+    (filling-on reading corrected used i n v (omega arith) (λ k h. m k (omega arith)))
+    (omega arith) (m n (omega arith)))
+
+pub filling-next : (reading corrected used : List ℕ) (i r : ℕ) → Filling reading corrected used i → i < r → r ≤ length reading
+    → every (r - i) (λ k. measuredAt reading (i + k)) ≡ true → Filling reading corrected used r
+filling-next reading corrected used i r v h l e =
+    subst (Filling reading corrected used) (let z : i + (r - i) ≡ r = omega arith in z)
+    (filling-on reading corrected used i (r - i) v (omega arith)
+    (λ k z. not-true _ (every-at (r - i) (λ j. measuredAt reading (i + j)) e k z)))
+
+-- ---- how far the search goes on
+
+pub next-one : (reading : List ℕ) (i : ℕ) → measuredAt reading i ≡ true → every (i + 1 - i) (λ k. measuredAt reading (i + k)) ≡ true
+next-one reading i e =
+    every-all (i + 1 - i) (λ k. measuredAt reading (i + k))
+    (λ k h. subst (λ (x : ℕ). measuredAt reading x ≡ true) (let z : i ≡ i + k = omega arith in z) e)
+
+pub next-16 : (reading : List ℕ) (i : ℕ) → every 16 (λ k. measuredAt reading (i + k)) ≡ true
+    → every (i + 16 - i) (λ k. measuredAt reading (i + k)) ≡ true
+next-16 reading i e = ap (λ (n : ℕ). every n (λ k. measuredAt reading (i + k))) (let z : i + 16 - i ≡ 16 = omega arith in z) ∙ e

@@ -2,25 +2,22 @@
 -- Assumes nothing.
 use Prim.Native.Nat.{ℕ, zero, suc, _+_, _-_, _*_, _≤_, _<_}
 use mathlib.Core.Path.{_≡_, refl, sym, ap, ap₂, _∙_, subst}
-use mathlib.Core.Bool.{Bool, true, false, not}
-use mathlib.Core.List.{List, [], _∷_, _++_}
-use native.Mathlib.Nat.{le-refl, le-trans, le-of-lt, not-suc-le-zero, lt-of-not-le}
-use native.Mathlib.Decide.{decLe}
+use mathlib.Core.Bool.{Bool, true, false}
+use mathlib.Core.List.{List, _++_}
 use native.Mathlib.Omega.{arith}
 use lib.Dec.{leb}
-use lib.ListN.{length, getD, drop, take}
-use lib.Seq.{ext-getD, getD-drop, getD-append-add, drop-at}
+use lib.ListN.{length, getD}
+use lib.Seq.{ext-getD}
 use borrow.Author.Tests.{le-leb, lt-leb}
-use Rattle.rows.specs.Rows.{pick, cut, build}
-use Rattle.rows.proofs.Laws.{length-cut, getD-cut, getD-build, length-build, getD-inside}
+use Rattle.rows.specs.Rows.{pick, cut}
+use Rattle.rows.proofs.Laws.{length-cut, getD-cut, getD-inside}
 use Rattle.protocol.specs.Ranges.{mark}
 use Rattle.window.specs.Window.{tallyOf, meanOf, limitOf, z90, z95, Low, Windows}
 use Rattle.window.specs.declared.Tally.{Tally}
 use Rattle.window.proofs.Laws.{tally-most, mean-most, limit-most, low-append}
-use Rattle.runs.specs.Runs.{missingAt, gapStart, gapEnd, whole, excluding}
+use Rattle.runs.specs.Runs.{missingAt, gapStart, gapEnd, whole}
 use Rattle.runs.proofs.Laws.{whole-before, whole-after, start-least}
-use Rattle.gaps.specs.Gaps.{widthOf, ruleOf, windowValues, replacementOf, replacementAt, heldFor, filledAt, Goes}
-use Rattle.gaps.specs.declared.Replacement.{Replacement}
+use Rattle.gaps.specs.Gaps.{widthOf, ruleOf, windowValues, replacementOf, replacementAt, Goes}
 use Rattle.gaps.specs.declared.Replacement.the-variants.{Value, TooLong, NotWhole}
 
 -- two rows of values agree wherever the reading is measured
@@ -147,7 +144,7 @@ module _ (reading corrected : List ℕ) (a e : ℕ) where
     replaced-value q = sym (by-window true q)
 
 -- what is asked of the two windows before they are summed
-pub windows-right : (reading corrected : List ℕ) (a e w : ℕ) → whole reading a e w ≡ true → 0 < w → w ≤ 288 → a ≤ length reading
+windows-right : (reading corrected : List ℕ) (a e w : ℕ) → whole reading a e w ≡ true → 0 < w → w ≤ 288 → a ≤ length reading
     → Goes reading corrected 30000 → Windows (cut corrected (a - w) a) (cut corrected e (e + w))
 windows-right reading corrected a e w h s l r g =
     let before : w ≤ a = reach-before reading a e w h in
@@ -173,6 +170,76 @@ value-most reading corrected a e b h r g =
     (low-append b (cut corrected (a - w) a) (cut corrected e (e + w))
     (low-before reading a e w h corrected b (width-some (e - a)) r g)
     (low-after reading a e w h corrected b (width-some (e - a)) r g)))
+
+-- ---- a gap whose windows are whole, as the code has it once it has looked at them
+
+pub record Ready (reading used : List ℕ) (a e w : ℕ) : Type 0 where
+  pub order : a < e
+  pub inside : e ≤ length reading
+  pub goes : Goes reading used 30000
+  pub short : e - a < 673
+  pub is-width : w ≡ widthOf (e - a)
+  pub few : w ≤ 288
+  pub some : 0 < w
+  pub is-whole : whole reading a e w ≡ true
+
+width-16 : (g : ℕ) → g ≤ 23 → widthOf g ≡ 16
+unfolding widthOf
+width-16 g h = simp (le-leb g 23 h)
+
+rule-mean : (g : ℕ) (t : Tally) → g ≤ 23 → meanOf t ≡ ruleOf g t
+unfolding ruleOf
+rule-mean g t h = sym (simp (le-leb g 23 h))
+
+module _ {reading used : List ℕ} {a e w : ℕ} (d : Ready reading used a e w) where
+  pub ready-before : w ≤ a
+  ready-before = reach-before reading a e w (d .is-whole)
+
+  pub ready-after : e + w ≤ length used
+  ready-after = let z : e + w ≤ length reading = reach-after reading a e w (d .is-whole) (d .some) in omega (arith, d .goes .same-length)
+
+  pub ready-windows : Windows (cut used (a - w) a) (cut used e (e + w))
+  ready-windows =
+      windows-right reading used a e w (d .is-whole) (d .some) (d .few) (omega (arith, d .order, d .inside)) (d .goes)
+
+  -- the windows of the shortest gaps have 16 entries each
+  pub ready-16 : e - a ≤ 23
+      → (length (cut used (a - w) a) ≡ 16) × (length (cut used e (e + w)) ≡ 16)
+      × Low 30000 (cut used (a - w) a) × Low 30000 (cut used e (e + w))
+  ready-16 h =
+      let n : w ≡ 16 = d .is-width ∙ width-16 (e - a) h in
+      let b : w ≤ a = ready-before in
+      let f : e + w ≤ length used = ready-after in
+      let o : a < e = d .order in (
+        length-cut used (a - w) a (omega arith) (omega arith) ∙ (let z : a - (a - w) ≡ 16 = omega arith in z),
+        length-cut used e (e + w) (omega arith) f ∙ (let z : e + w - e ≡ 16 = omega arith in z),
+        ready-windows .low-before,
+        ready-windows .low-after,
+      )
+
+  -- the statistics are those of the values that the specification names
+  ready-values : tallyOf (cut used (a - w) a ++ cut used e (e + w)) ≡ tallyOf (windowValues used a e (widthOf (e - a)))
+  unfolding windowValues
+  ready-values = ap (λ (n : ℕ). tallyOf (cut used (a - n) a ++ cut used e (e + n))) (d .is-width)
+
+  is-whole-width : whole reading a e (widthOf (e - a)) ≡ true
+  is-whole-width = ap (whole reading a e) (sym (d .is-width)) ∙ d .is-whole
+
+  ready-value : {r : ℕ} → r ≡ ruleOf (e - a) (tallyOf (cut used (a - w) a ++ cut used e (e + w))) → Value r ≡ replacementOf reading used a e
+  ready-value q =
+      ap Value (q ∙ ap (ruleOf (e - a)) ready-values) ∙ replaced-value reading used a e (d .short) is-whole-width
+
+  pub ready-limit : (r : ℕ) (t : Tally) → t ≡ tallyOf (cut used (a - w) a ++ cut used e (e + w)) → r ≡ ruleOf (e - a) t
+      → (Value r ≡ replacementOf reading used a e) × (r ≤ 30000)
+  ready-limit r t p q =
+      let same = q ∙ ap (ruleOf (e - a)) p in (
+        ready-value same,
+        subst (λ (x : ℕ). x ≤ 30000) (sym (same ∙ ap (ruleOf (e - a)) ready-values))
+            (value-most reading used a e 30000 is-whole-width (omega (arith, d .order, d .inside)) (d .goes)),
+      )
+
+  pub ready-mean : {r : ℕ} → e - a ≤ 23 → r ≡ meanOf (tallyOf (cut used (a - w) a ++ cut used e (e + w))) → Value r ≡ replacementOf reading used a e
+  ready-mean h q = ready-value (q ∙ rule-mean (e - a) (tallyOf (cut used (a - w) a ++ cut used e (e + w))) h)
 
 -- the same of an interval's replacement
 pub replacement-most : (reading corrected : List ℕ) (i b : ℕ) → i < length reading → Goes reading corrected b

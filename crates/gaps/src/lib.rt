@@ -1,10 +1,12 @@
 // The replacement of every gap of one series, each gap found and worked out once.
-ghost use Prim.Native.Nat.{ℕ, _+_, _-_, _≤_, _<_};
+ghost use Prim.Native.Nat.{ℕ, _+_, _-_, _*_, _/_, _≤_, _<_};
 ghost use mathlib.Core.Path.{_≡_};
+ghost use mathlib.Core.Bool.{true};
 ghost use lib.ListN.{length};
-ghost use Rattle.rows.specs.Rows.{build, Continued};
+ghost use Rattle.rows.specs.Rows.{build, every, Continued};
 ghost use Rattle.protocol.specs.Ranges.{flowMost};
 ghost use Rattle.window.specs.Window.{Sized};
+ghost use Rattle.runs.specs.Runs.{measuredAt};
 ghost use Rattle.gaps.specs.Gaps.{widthOf, ruleOf, replacementOf, heldFor, filledAt, Goes};
 use protocol::MISSING;
 use window::Tally;
@@ -18,7 +20,7 @@ pub enum Replacement {
 
 // The intervals in each window of a gap. Ruled out: a border of the table off by one; the last class for every gap.
 fn width(gap: usize) -> usize
-    ensures { λ r. ⌜ (r ≡ widthOf gap) × (r ≤ 288) × (0 < r) ⌝ }
+    ensures { λ r. ⌜ (r ≡ widthOf gap) × (r ≤ 288) × (0 < r) × (16 * (r / 16) ≡ r) ⌝ }
 {
     if gap <= 23 {
         return 16;
@@ -29,14 +31,11 @@ fn width(gap: usize) -> usize
     288
 }
 
-// Mean or lower limit, by the gap's length. Ruled out: the mean for every gap; the 90 % limit for the longest.
-fn rule(missing: usize, t: Tally) -> u64
-    requires { ⌜ Sized t ⌝ }
+// The lower limit, by the gap's length. Ruled out: the 95 % limit for every gap; the 90 % limit for the longest.
+fn limit(missing: usize, t: Tally) -> u64
+    requires { ⌜ Sized t × (23 < missing) ⌝ }
     ensures { λ r. ⌜ r ≡ ruleOf missing t ⌝ }
 {
-    if missing <= 23 {
-        return window::mean(t);
-    }
     if missing <= 95 {
         return window::limit(t, 271);
     }
@@ -49,18 +48,21 @@ pub fn replace_gap(reading: &[u16], used: &[u16], a: usize, e: usize) -> Replace
     requires { ⌜ (a < e) × (e ≤ length (now reading)) × (length (now reading) ≤ 35136) × Goes (now reading) (now used) flowMost ⌝ }
     ensures { λ r. ⌜ r ≡ replacementOf (now (reading .entry)) (now (used .entry)) a e ⌝ }
 {
-    let gap = e - a;
-    if 673 <= gap {
+    let missing = e - a;
+    if 673 <= missing {
         return Replacement::TooLong;
     }
-    let w = width(gap);
-    if !runs::windows_whole(reading, a, e, w) {
+    let w = width(missing);
+    if !runs::windows_whole(reading, a, e, w / 16) {
         return Replacement::NotWhole;
     }
     let first = a - w;
     let last = e + w;
+    if missing <= 23 {
+        return Replacement::Value(window::mean_of_32(&used[first..a], &used[e..last]) as u16);
+    }
     let t = window::tally_of(&used[first..a], &used[e..last]);
-    Replacement::Value(rule(gap, t) as u16)
+    Replacement::Value(limit(missing, t) as u16)
 }
 
 // What a gap's entries hold until outcomes are given: a value goes on, otherwise the exclusion's outcome is given.
@@ -95,6 +97,20 @@ fn spread(used: &mut [u16], a: usize, e: usize, v: u16)
     }
 }
 
+// Where the search for a gap goes on after the measured entry i: 16 entries further if none of them is missing.
+// Ruled out: a missing entry passed over; no step at all.
+fn next(reading: &[u16], i: usize) -> usize
+    requires { ⌜ (i < length (now reading)) × (length (now reading) ≤ 35136) × (measuredAt (now reading) i ≡ true) ⌝ }
+    ensures { λ r. ⌜ (i < r) × (r ≤ length (now (reading .entry))) × (every (r - i) (λ k. measuredAt (now (reading .entry)) (i + k)) ≡ true) ⌝ }
+{
+    if i + 16 <= reading.len() {
+        if runs::measured(reading, i) {
+            return i + 16;
+        }
+    }
+    i + 1
+}
+
 // Every gap's entries get what its replacement holds. Ruled out: a replaced entry used in a later gap's window; a gap
 // worked out from the readings before drift was corrected.
 pub fn fill_gaps(reading: &[u16], used: &mut [u16])
@@ -110,7 +126,7 @@ pub fn fill_gaps(reading: &[u16], used: &mut [u16])
             spread(used, i, e, held(answer));
             i = e;
         } else {
-            i += 1;
+            i = next(reading, i);
         }
     }
 }

@@ -5,15 +5,15 @@ use mathlib.Core.Path.{_≡_, refl, sym, ap, _∙_, subst}
 use mathlib.Core.Bool.{Bool, true, false, not}
 use mathlib.Core.Logic.{⊎-elim}
 use mathlib.Core.List.{List, [], _∷_}
-use native.Mathlib.Nat.{add-zero, add-suc, suc-add, zero-add, le-refl, le-trans, le-step, le-antisymm, not-suc-le-zero, le-of-suc-le-suc, le-add-right, eq-or-lt-of-le, le-dest, lt-of-not-le}
+use native.Mathlib.Nat.{add-zero, add-suc, le-refl, le-step, le-antisymm, not-suc-le-zero, le-of-suc-le-suc, le-add-right, eq-or-lt-of-le, le-dest, lt-of-not-le}
 use native.Mathlib.Decide.{decLe}
 use native.Mathlib.Omega.{arith}
 use lib.Dec.{ltb, eqb}
-use borrow.Author.Tests.{ltb-true, lt-ltb, le-ltb, eq-eqb, ne-eqb}
+use borrow.Author.Tests.{ltb-true, eq-eqb, ne-eqb}
 use lib.ListN.{length, getD, drop, length-drop, drop-of-length-le, List·getD-eq-default}
 use lib.Seq.{drop-cons, getD-drop}
-use Rattle.rows.specs.Rows.{pick, both, every}
-use Rattle.rows.proofs.Laws.{every-at, every-all, every-fails, both-true, getD-inside}
+use Rattle.rows.specs.Rows.{pick, every}
+use Rattle.rows.proofs.Laws.{every-at, both-true, getD-inside}
 use Rattle.protocol.specs.Ranges.{missing, mark}
 use Rattle.runs.specs.Runs.{missingAt, measuredAt, gapStart, gapEnd, run, usable, whole, IsGap}
 
@@ -215,55 +215,11 @@ not-back : (b : Bool) → not b ≡ true → b ≡ false
 not-back true e = clash e refl
 not-back false e = refl
 
--- ---- one place of a window, as the code looks at it
-
-module _ (row : List ℕ) (a e side : ℕ) where
-  pub usable-before : side ≡ 0 → (k : ℕ) → k < a → a ≤ length row
-      → not (eqb (getD row (a - (k + 1)) 0) 65535) ≡ usable row a e side k
-  unfolding usable
-  usable-before q k h l =
-      ap not (seen row (a - (k + 1)) (omega arith))
-      ∙ sym (ap (λ (s : ℕ). usable row a e s k) q ∙ ap (λ (b : Bool). both b (measuredAt row (a - (k + 1)))) (lt-ltb k a h))
-
-  pub usable-not-before : side ≡ 0 → (k : ℕ) → a ≤ k → false ≡ usable row a e side k
-  unfolding usable
-  usable-not-before q k h =
-      sym (ap (λ (s : ℕ). usable row a e s k) q ∙ ap (λ (b : Bool). both b (measuredAt row (a - (k + 1)))) (le-ltb k a h))
-
-  after-is : (side ≡ 0 → ⊥) → (k : ℕ) → usable row a e side k ≡ measuredAt row (e + k)
-  unfolding usable
-  after-is f k = go side f
-    where
-      go : (s : ℕ) → (s ≡ 0 → ⊥) → usable row a e s k ≡ measuredAt row (e + k)
-      go zero f = absurd (f refl)
-      go (suc s) f = refl
-
-  pub usable-after : (side ≡ 0 → ⊥) → (k : ℕ) → e + k < length row → not (eqb (getD row (e + k) 0) 65535) ≡ usable row a e side k
-  usable-after f k h = ap not (seen row (e + k) h) ∙ sym (after-is f k)
-
-  pub usable-not-after : (side ≡ 0 → ⊥) → (k : ℕ) → length row ≤ e + k → false ≡ usable row a e side k
-  usable-not-after f k h = sym (after-is f k ∙ ap (λ (v : ℕ). not (missing v)) (List·getD-eq-default row mark h))
-
 -- a window's places, one by one
 every-usable : (row : List ℕ) (a e w side k : ℕ) → whole row a e w ≡ true → side < 2 → k < w → usable row a e side k ≡ true
 unfolding whole
 every-usable row a e w side k h s l =
     every-at w (usable row a e side) (every-at 2 (λ d. every w (usable row a e d)) h side s) k l
-
--- both windows looked through
-pub whole-all : (row : List ℕ) (a e w side : ℕ) → ((d : ℕ) → d < side → every w (usable row a e d) ≡ true) → 2 ≤ side → whole row a e w ≡ true
-unfolding whole
-whole-all row a e w side h l = every-all 2 (λ d. every w (usable row a e d)) (λ d z. h d (omega arith))
-
--- one window looked through up to its end
-pub side-all : (row : List ℕ) (a e w side k : ℕ) → ((j : ℕ) → j < k → usable row a e side j ≡ true) → w ≤ k → every w (usable row a e side) ≡ true
-side-all row a e w side k h l = every-all w (usable row a e side) (λ j z. h j (omega arith))
-
--- one place that cannot be used
-pub whole-fails : (row : List ℕ) (a e w side k : ℕ) → side < 2 → k < w → usable row a e side k ≡ false → whole row a e w ≡ false
-unfolding whole
-whole-fails row a e w side k h l q =
-    every-fails 2 (λ d. every w (usable row a e d)) side h (every-fails w (usable row a e side) k l q)
 
 pub whole-before : (row : List ℕ) (a e w : ℕ) → whole row a e w ≡ true → (k : ℕ) → k < w → (k < a) × (missingAt row (a - (k + 1)) ≡ false)
 unfolding usable

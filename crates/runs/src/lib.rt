@@ -1,8 +1,9 @@
 // Gaps of one series: where a run of missing readings ends, and whether its two windows are whole.
-ghost use Prim.Native.Nat.{ℕ, _+_, _≤_, _<_};
+ghost use Prim.Native.Nat.{ℕ, _+_, _*_, _≤_, _<_};
 ghost use mathlib.Core.Path.{_≡_};
 ghost use lib.ListN.{length};
-ghost use Rattle.runs.specs.Runs.{gapEnd, usable, whole};
+ghost use Rattle.rows.specs.Rows.{every};
+ghost use Rattle.runs.specs.Runs.{measuredAt, gapEnd, whole};
 use protocol::MISSING;
 
 // The interval after the gap that interval i is in. Ruled out: the gap's last interval; an end past the row.
@@ -20,41 +21,51 @@ pub fn gap_end(reading: &[u16], from: usize) -> usize
     i
 }
 
-// Whether place k of a window can be used: side 0 is before the gap, counted back from it, side 1 after it. Ruled out: an
-// entry past the row's end that counts as measured; the gap's own first entry taken for place 0.
-pub fn serves(reading: &[u16], a: usize, e: usize, side: usize, k: usize) -> bool
-    requires { ⌜ (e + k < 4294967296) × (a ≤ length (now reading)) ⌝ }
-    ensures { λ r. ⌜ r ≡ usable (now (reading .entry)) a e side k ⌝ }
-{
-    if side == 0 {
-        if k < a {
-            return reading[a - (k + 1)] != MISSING;
-        }
-        return false;
-    }
-    if e + k < reading.len() {
-        return reading[e + k] != MISSING;
-    }
-    false
-}
-
-// The look over the two windows of a gap, left at the first entry that cannot be used. Ruled out: one window looked at
-// only; a window that is whole though its last entry is missing.
-pub fn windows_whole(reading: &[u16], a: usize, e: usize, w: usize) -> bool
-    requires { ⌜ (e + w < 4294967296) × (a ≤ length (now reading)) ⌝ }
-    ensures { λ r. ⌜ r ≡ whole (now (reading .entry)) a e w ⌝ }
+// Whether none of the 16 entries from i is missing. All are looked at, so that a processor does it at one go.
+// Ruled out: the last of them left out; the first one past them looked at.
+pub fn measured(reading: &[u16], i: usize) -> bool
+    requires { ⌜ i + 16 ≤ length (now reading) ⌝ }
+    ensures { λ r. ⌜ r ≡ every 16 (λ k. measuredAt (now (reading .entry)) (i + k)) ⌝ }
 {
     let mut all = true;
-    let mut side = 0;
+    let mut k = 0;
+    while k < 16 {
+        if reading[i + k] == MISSING {
+            all = false;
+            k += 1;
+        } else {
+            k += 1;
+        }
+    }
+    all
+}
+
+// The look over the two windows of a gap, each of so many blocks of 16, left at the first block with an entry that cannot be used.
+// Ruled out: one window looked at only; a window that is whole though its last entry is missing.
+pub fn windows_whole(reading: &[u16], a: usize, e: usize, blocks: usize) -> bool
+    requires { ⌜ (e + 16 * blocks < 4294967296) × (a ≤ e) × (e ≤ length (now reading)) ⌝ }
+    ensures { λ r. ⌜ r ≡ whole (now (reading .entry)) a e (16 * blocks) ⌝ }
+{
+    let w = 16 * blocks;
+    if a < w {
+        return false;
+    }
+    if reading.len() < e + w {
+        return false;
+    }
+    let mut all = true;
+    let mut from = a - w;
+    let mut side: usize = 0;
     'look: while side < 2 {
         let mut k = 0;
-        while k < w {
-            if !serves(reading, a, e, side, k) {
+        while k < blocks {
+            if !measured(reading, from + 16 * k) {
                 all = false;
                 break 'look;
             }
             k += 1;
         }
+        from = e;
         side += 1;
     }
     all

@@ -35,7 +35,7 @@ adding-none {xs} h l =
 
 -- the value at i is what comes off what is left
 module _ (xs : List ℕ) (i : ℕ) (h : i < length xs) where
-  off : total (drop i xs) ≡ getD xs i 0 + total (drop (i + 1) xs)
+  pub off : total (drop i xs) ≡ getD xs i 0 + total (drop (i + 1) xs)
   off = rw (add-one, drop-cons xs i 0)
 
   off-squares : total (squared (drop i xs)) ≡ getD xs i 0 * getD xs i 0 + total (squared (drop (i + 1) xs))

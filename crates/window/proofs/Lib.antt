@@ -1,4 +1,5 @@
 pub mod Laws
 pub mod Fit
 pub mod Adding
+pub mod Pairing
 pub mod Halving

@@ -55,6 +55,20 @@ pub fn mean(t: Tally) -> u64
     t.sum / t.n
 }
 
+// The mean of two windows of 16, rounded down: no squares, and a division by 32. Ruled out: one window taken twice; the mean of 16.
+pub fn mean_of_32(before: &[u16], after: &[u16]) -> u64
+    requires { ⌜ (length (now before) ≡ 16) × (length (now after) ≡ 16) × Low 30000 (now before) × Low 30000 (now after) ⌝ }
+    ensures { λ r. ⌜ (r ≡ meanOf (tallyOf (now (before .entry) ++ now (after .entry)))) × (r ≤ 30000) ⌝ }
+{
+    let mut sum: u32 = 0;
+    let mut i = 0;
+    while i < 16 {
+        sum += before[i] as u32 + after[i] as u32;
+        i += 1;
+    }
+    (sum / 32) as u64
+}
+
 // Whether l meets the limit's condition.
 fn meets_at(t: Tally, z: u64, l: u64) -> bool
     requires { ⌜ Sized t × (z ≤ z95) × (l ≤ 30000) ⌝ }

@@ -1,123 +1,156 @@
-use Rattle.rows.specs.Rows.{cut}
-use mathlib.Core.List.{_++_}
-use Rattle.window.specs.Window.{tallyOf}
-use Rattle.gaps.specs.declared.Replacement.the-variants.{Value}
-use Prim.Native.Nat.{ℕ, _+_, _-_, _*_, _≤_, _<_}
-use mathlib.Core.Path.{_≡_, refl, sym, ap, _∙_, subst}
-use mathlib.Core.Bool.{Bool, true, false, not}
+use Prim.Native.Nat.{_-_}
+use mathlib.Core.Path.{_≡_, sym, ap, _∙_}
 use native.Mathlib.Omega.{arith}
-use lib.ListN.{length, getD}
-use borrow.Author.Tests.{not-true, not-false}
-use Rattle.gaps.specs.Gaps.{widthOf, ruleOf, heldFor, replacementOf, windowValues, Goes}
-use Rattle.runs.specs.Runs.{whole}
-use Rattle.gaps.proofs.Laws.{replaced-long, replaced-not, replaced-value, windows-right, value-most, reach-before, reach-after}
 use borrow.Author.Needs.{needs}
+use borrow.Author.Tests.{not-true, not-false}
+use Rattle.runs.specs.Runs.{whole}
+use Rattle.gaps.proofs.Laws.{replaced-long, replaced-not, Ready, ready-before, ready-after, ready-windows, ready-16, ready-mean, ready-limit}
 use Rattle.gaps.proofs.replace_gap.Statement.{statement}
 use Rattle.gaps.proofs.replace_gap.Tie as tie
-use Rattle.gaps.proofs.replace_gap.Reads as reads
-use Rattle.gaps.proofs.replace_gap.Lts as lts
-use Rattle.gaps.proofs.rule.Reads as rule-reads
-use Rattle.gaps.proofs.width.Reads as width-reads
-use Rattle.runs.proofs.windows_whole.Reads as windows-whole-reads
-use Rattle.window.proofs.tally_of.Reads as tally-of-reads
 
--- src/lib.rt:51:15
-sub-gap : tie.Need-sub-gap
-sub-gap c = search needs
+-- the blocks of 16 that are looked at make up the windows
+looked : (c : tie.After-windows-whole)
+    → c .windows-whole .result ≡ whole (c .before .before .before .before .before .args .reading .now) (c .before .before .before .before .before .args .a) (c .before .before .before .before .before .args .e) (c .before .width .result)
+looked c =
+    c .windows-whole .ensures ∙ ap (whole (c .before .before .before .before .before .args .reading .now) (c .before .before .before .before .before .args .a) (c .before .before .before .before .before .args .e)) (c .before .width .ensures .3)
 
--- src/lib.rt:53:9
+-- what is known once they are found whole
+ready : (c : tie.Else2)
+    → Ready (c .before .before .before .before .before .before .args .reading .now) (c .before .before .before .before .before .before .args .used .now) (c .before .before .before .before .before .before .args .a) (c .before .before .before .before .before .before .args .e) (c .before .before .width .result)
+ready c =
+    record {
+      order = c .before .before .before .before .before .before .pre .0;
+      inside = c .before .before .before .before .before .before .pre .1;
+      goes = c .before .before .before .before .before .before .pre .3;
+      short = omega (arith, c .before .before .before .if1 .left);
+      is-width = c .before .before .width .ensures .0;
+      few = c .before .before .width .ensures .1;
+      some = c .before .before .width .ensures .2;
+      is-whole = sym (looked (c .before)) ∙ not-false _ (c .if2 .left);
+    }
+
+sub-missing : tie.Need-sub-missing
+sub-missing c = search needs
+
 returns : tie.Need-returns
-returns c = replaced-long _ _ _ _ (c .if1 .taken)
+returns c =
+    let g = c .before .before .before .args in
+    replaced-long (g .reading .now) (g .used .now) (g .a) (g .e) (omega (arith, c .if1 .taken))
 
--- src/lib.rt:55:9
 width-requires : tie.Need-width-requires
 width-requires c κs = search needs
 
--- src/lib.rt:56:9
 windows-whole-requires : tie.Need-windows-whole-requires
-windows-whole-requires c κs = search needs
+windows-whole-requires c κs =
+    let p = c .before .before .before .before .pre in
+    (omega (arith, p .1, p .2, c .width .ensures .1, c .width .ensures .3), omega (arith, p .0), p .1)
 
--- src/lib.rt:57:9
 returns-2 : tie.Need-returns-2
-returns-2 c = replaced-not _ _ _ _ (c .before .before .before .if1 .left) (sym (ap (whole (c .before .before .before .before .before .before .args .reading .now) (c .before .before .before .before .before .before .args .a) (c .before .before .before .before .before .before .args .e)) (c .before .before .width .ensures .0)) ∙ sym (c .before .windows-whole .ensures) ∙ not-true _ (c .if2 .taken))
+returns-2 c =
+    let g = c .before .before .before .before .before .before .args in
+    replaced-not (g .reading .now) (g .used .now) (g .a) (g .e) (omega (arith, c .before .before .before .if1 .left))
+    (sym (looked (c .before) ∙ ap (whole (g .reading .now) (g .a) (g .e)) (c .before .before .width .ensures .0)) ∙ not-true _ (c .if2 .taken))
 
--- src/lib.rt:59:17
 sub-first : tie.Need-sub-first
-sub-first c = reach-before _ _ _ _ (sym (c .before .windows-whole .ensures) ∙ not-false _ (c .if2 .left))
+sub-first c = ready-before (ready (c))
 
--- src/lib.rt:60:16
 add-last : tie.Need-add-last
 add-last c = search needs
 
--- src/lib.rt:61:30
+mul-mean-of-32 : tie.Need-mul-mean-of-32
+mul-mean-of-32 c = search needs
+
+sub-mean-of-32 : tie.Need-sub-mean-of-32
+sub-mean-of-32 c = search needs
+
+part-mean-of-32-start : tie.Need-part-mean-of-32-start
+part-mean-of-32-start c = search needs
+
+part-mean-of-32-end : tie.Need-part-mean-of-32-end
+part-mean-of-32-end c = search needs
+
+mul-mean-of-32-2 : tie.Need-mul-mean-of-32-2
+mul-mean-of-32-2 c = search needs
+
+sub-mean-of-32-2 : tie.Need-sub-mean-of-32-2
+sub-mean-of-32-2 c = search needs
+
+part-mean-of-32-start-2 : tie.Need-part-mean-of-32-start-2
+part-mean-of-32-start-2 c = search needs
+
+part-mean-of-32-end-2 : tie.Need-part-mean-of-32-end-2
+part-mean-of-32-end-2 c = ready-after (ready (c .before .before))
+
+mean-of-32-requires : tie.Need-mean-of-32-requires
+mean-of-32-requires c κs = ready-16 (ready (c .before .before .before)) (omega (arith, c .before .before .if3 .taken))
+
+cast-t24 : tie.Need-cast-t24
+cast-t24 c = record { fits = omega (arith, c .mean-of-32 .ensures .1) }
+
+returns-3 : tie.Need-returns-3
+returns-3 c = ready-mean (ready (c .before .before .before .before)) (omega (arith, c .before .before .before .if3 .taken)) (c .mean-of-32 .ensures .0)
+
 mul-tally-of : tie.Need-mul-tally-of
 mul-tally-of c = search needs
 
--- src/lib.rt:61:30
 sub-tally-of : tie.Need-sub-tally-of
 sub-tally-of c = search needs
 
--- src/lib.rt:61:30
 part-tally-of-start : tie.Need-part-tally-of-start
 part-tally-of-start c = search needs
 
--- src/lib.rt:61:30
 part-tally-of-end : tie.Need-part-tally-of-end
 part-tally-of-end c = search needs
 
--- src/lib.rt:61:47
 mul-tally-of-2 : tie.Need-mul-tally-of-2
 mul-tally-of-2 c = search needs
 
--- src/lib.rt:61:47
 sub-tally-of-2 : tie.Need-sub-tally-of-2
 sub-tally-of-2 c = search needs
 
--- src/lib.rt:61:47
 part-tally-of-start-2 : tie.Need-part-tally-of-start-2
 part-tally-of-start-2 c = search needs
 
--- src/lib.rt:61:47
 part-tally-of-end-2 : tie.Need-part-tally-of-end-2
-part-tally-of-end-2 c = let s = c .before .before .before .before .before .before .before .pre in let h = reach-after (c .before .before .before .before .before .before .before .args .reading .now) (c .before .before .before .before .before .before .before .args .a) (c .before .before .before .before .before .before .before .args .e) (c .before .before .before .width .result) (sym (c .before .before .windows-whole .ensures) ∙ not-false _ (c .before .if2 .left)) (c .before .before .before .width .ensures .2) in omega (arith, s .3 .same-length)
+part-tally-of-end-2 c = ready-after (ready (c .before .before))
 
--- src/lib.rt:61:9
 tally-of-requires : tie.Need-tally-of-requires
-tally-of-requires c κs = let s = c .before .before .before .before .before .before .before .before .pre in windows-right (c .before .before .before .before .before .before .before .before .args .reading .now) (c .before .before .before .before .before .before .before .before .args .used .now) (c .before .before .before .before .before .before .before .before .args .a) (c .before .before .before .before .before .before .before .before .args .e) (c .before .before .before .before .width .result) (sym (c .before .before .before .windows-whole .ensures) ∙ not-false _ (c .before .before .if2 .left)) (c .before .before .before .before .width .ensures .2) (c .before .before .before .before .width .ensures .1) (omega arith) (s .3)
+tally-of-requires c κs = ready-windows (ready (c .before .before .before))
 
--- src/lib.rt:62:24
-rule-requires : tie.Need-rule-requires
-rule-requires c κs = search needs
+limit-requires : tie.Need-limit-requires
+limit-requires c κs = (c .tally-of .ensures .1, omega (arith, c .before .before .before .if3 .left))
 
--- the statistics are those of the window values that the specification names
-same : (c : tie.After-rule) → ruleOf (c .before .before .before .before .before .before .before .before .before .before .args .e - c .before .before .before .before .before .before .before .before .before .before .args .a) (c .before .tally-of .result)
-    ≡ ruleOf (c .before .before .before .before .before .before .before .before .before .before .args .e - c .before .before .before .before .before .before .before .before .before .before .args .a) (tallyOf (windowValues (c .before .before .before .before .before .before .before .before .before .before .args .used .now) (c .before .before .before .before .before .before .before .before .before .before .args .a) (c .before .before .before .before .before .before .before .before .before .before .args .e) (widthOf (c .before .before .before .before .before .before .before .before .before .before .args .e - c .before .before .before .before .before .before .before .before .before .before .args .a))))
-unfolding windowValues
-same c =
-    ap (ruleOf (c .before .before .before .before .before .before .before .before .before .before .args .e - c .before .before .before .before .before .before .before .before .before .before .args .a))
-    (c .before .tally-of .ensures .0
-    ∙ ap (λ (w : ℕ). tallyOf (cut (c .before .before .before .before .before .before .before .before .before .before .args .used .now) (c .before .before .before .before .before .before .before .before .before .before .args .a - w) (c .before .before .before .before .before .before .before .before .before .before .args .a) ++ cut (c .before .before .before .before .before .before .before .before .before .before .args .used .now) (c .before .before .before .before .before .before .before .before .before .before .args .e) (c .before .before .before .before .before .before .before .before .before .before .args .e + w)))
-    (c .before .before .before .before .before .before .width .ensures .0))
+cast-t35 : tie.Need-cast-t35
+cast-t35 c =
+    record {
+      fits = omega (arith, ready-limit (ready (c .before .before .before .before .before)) (c .limit .result) (c .before .tally-of .result) (c .before .tally-of .ensures .0) (c .limit .ensures) .1);
+    }
 
--- src/lib.rt:62:24
-cast-t23 : tie.Need-cast-t23
-cast-t23 c = record { fits = omega (arith, c .rule .ensures, same c, value-most (c .before .before .before .before .before .before .before .before .before .before .args .reading .now) (c .before .before .before .before .before .before .before .before .before .before .args .used .now) (c .before .before .before .before .before .before .before .before .before .before .args .a) (c .before .before .before .before .before .before .before .before .before .before .args .e) 30000 (sym (ap (whole (c .before .before .before .before .before .before .before .before .before .before .args .reading .now) (c .before .before .before .before .before .before .before .before .before .before .args .a) (c .before .before .before .before .before .before .before .before .before .before .args .e)) (c .before .before .before .before .before .before .width .ensures .0)) ∙ sym (c .before .before .before .before .before .windows-whole .ensures) ∙ not-false _ (c .before .before .before .before .if2 .left)) (omega (arith, c .before .before .before .before .before .before .before .before .before .before .pre .0, c .before .before .before .before .before .before .before .before .before .before .pre .1)) (c .before .before .before .before .before .before .before .before .before .before .pre .3)) }
-
--- src/lib.rt:47:1
-returns-3 : tie.Need-returns-3
-returns-3 c = ap Value (c .rule .ensures ∙ same c) ∙ replaced-value (c .before .before .before .before .before .before .before .before .before .before .args .reading .now) (c .before .before .before .before .before .before .before .before .before .before .args .used .now) (c .before .before .before .before .before .before .before .before .before .before .args .a) (c .before .before .before .before .before .before .before .before .before .before .args .e) (c .before .before .before .before .before .before .before .if1 .left) (sym (ap (whole (c .before .before .before .before .before .before .before .before .before .before .args .reading .now) (c .before .before .before .before .before .before .before .before .before .before .args .a) (c .before .before .before .before .before .before .before .before .before .before .args .e)) (c .before .before .before .before .before .before .width .ensures .0)) ∙ sym (c .before .before .before .before .before .windows-whole .ensures) ∙ not-false _ (c .before .before .before .before .if2 .left))
+returns-4 : tie.Need-returns-4
+returns-4 c = ready-limit (ready (c .before .before .before .before .before)) (c .limit .result) (c .before .tally-of .result) (c .before .tally-of .ensures .0) (c .limit .ensures) .0
 
 pub replace-gap-spec : {M : Type 1} → statement M
 replace-gap-spec =
     tie.close
     (tie.spec
-    sub-gap
+    sub-missing
     returns
     width-requires
     windows-whole-requires
     returns-2
     sub-first
     add-last
+    mul-mean-of-32
+    sub-mean-of-32
+    part-mean-of-32-start
+    part-mean-of-32-end
+    mul-mean-of-32-2
+    sub-mean-of-32-2
+    part-mean-of-32-start-2
+    part-mean-of-32-end-2
+    mean-of-32-requires
+    cast-t24
+    returns-3
     mul-tally-of
     sub-tally-of
     part-tally-of-start
@@ -127,6 +160,6 @@ replace-gap-spec =
     part-tally-of-start-2
     part-tally-of-end-2
     tally-of-requires
-    rule-requires
-    cast-t23
-    returns-3)
+    limit-requires
+    cast-t35
+    returns-4)

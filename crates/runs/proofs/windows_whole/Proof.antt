@@ -1,81 +1,92 @@
-use Rattle.runs.proofs.Laws.{side-all, whole-all, whole-fails}
-use Prim.Native.Nat.{ℕ, suc, _+_, _-_, _≤_, _<_}
-use mathlib.Core.Path.{_≡_, refl, sym, ap, _∙_, subst}
-use mathlib.Core.Bool.{Bool, true, false, not}
+use Prim.Native.Nat.{ℕ, _-_, _*_, _≤_}
+use mathlib.Core.Path.{_≡_, refl, sym, _∙_, subst}
+use mathlib.Core.Bool.{true}
 use native.Mathlib.Omega.{arith}
-use native.Mathlib.Numerals.{add-one}
-use lib.Dec.{eqb, ltb}
-use lib.ListN.{length, getD}
-use borrow.Author.Tests.{eq-eqb, ne-eqb, lt-ltb, le-ltb}
-use Rattle.rows.specs.Rows.{both, every}
-use Rattle.protocol.specs.Ranges.{missing, mark}
-use Rattle.runs.specs.Runs.{gapEnd, usable, whole, missingAt, measuredAt}
 use borrow.Author.Needs.{needs}
-use borrow.Author.Count.{below-more}
 use borrow.Author.Tests.{not-false, not-true}
-use native.Mathlib.Nat.{not-suc-le-zero}
+use Rattle.runs.proofs.Look.{Measured, measured-none, measured-block, Looked, short-before, short-after, looked-none, looked-room, looked-side, looked-all, looked-fails}
 use Rattle.runs.proofs.windows_whole.Statement.{statement}
 use Rattle.runs.proofs.windows_whole.Tie as tie
-use Rattle.runs.proofs.windows_whole.Reads as reads
-use Rattle.runs.proofs.windows_whole.Lts as lts
-use Rattle.runs.proofs.serves.Reads as serves-reads
 
 abbrev Inv-loop : tie.InvT-loop
-Inv-loop reading a e w all₀ side k₀ all k = (all ≡ true) × (k ≤ w) × ((j : ℕ) → j < k → usable reading a e side j ≡ true)
+Inv-loop reading a e blocks w all₀ from side k₀ all k = (all ≡ true) × (k ≤ blocks) × Measured reading from (16 * k)
 
 abbrev μ-loop : tie.MeasureT-loop
-μ-loop reading a e w all₀ side k₀ all k = w - k
+μ-loop reading a e blocks w all₀ from side k₀ all k = blocks - k
 
 abbrev Inv-look : tie.InvT-look
-Inv-look reading a e w all₀ side₀ all side = (all ≡ true) × (side ≤ 2) × ((d : ℕ) → d < side → every w (usable reading a e d) ≡ true)
+Inv-look reading a e blocks w all₀ from₀ side₀ all from side = (all ≡ true) × (side ≤ 2) × Looked reading a e w from side
 
 abbrev μ-look : tie.MeasureT-look
-μ-look reading a e w all₀ side₀ all side = 2 - side
+μ-look reading a e blocks w all₀ from₀ side₀ all from side = 2 - side
 
--- src/lib.rt:48:5
+mul-w : tie.Need-mul-w Inv-loop μ-loop Inv-look μ-look
+mul-w c = search needs
+
+returns : tie.Need-returns Inv-loop μ-loop Inv-look μ-look
+returns c = short-before _ _ _ _ (c .if1 .taken)
+
+add-if2 : tie.Need-add-if2 Inv-loop μ-loop Inv-look μ-look
+add-if2 c = search needs
+
+returns-2 : tie.Need-returns-2 Inv-loop μ-loop Inv-look μ-look
+returns-2 c =
+    let g = c .before .before .before .args in
+    short-after (g .reading .now) (g .a) (g .e) (16 * g .blocks) (c .before .before .before .pre .2) (omega (arith, c .if2 .taken))
+
 look-holds : tie.Need-look-holds Inv-loop μ-loop Inv-look μ-look
-look-holds c = (refl, omega arith, λ d h. absurd (not-suc-le-zero h))
+look-holds c =
+    let g = c .before .before .before .args in (
+      refl,
+      omega arith,
+      looked-none (g .reading .now) (g .a) (g .e) (16 * g .blocks) (c .before .before .before .pre .1) (omega (arith, c .before .if1 .left)) (omega (arith, c .if2 .left)),
+    )
 
--- src/lib.rt:50:9
 loop-holds : tie.Need-loop-holds Inv-loop μ-loop Inv-look μ-look
-loop-holds c = (c .before .look .inv .0, omega arith, λ d h. absurd (not-suc-le-zero h))
+loop-holds c = (c .before .look .inv .0, omega arith, measured-none _ _)
 
--- src/lib.rt:51:17
-serves-requires : tie.Need-serves-requires Inv-loop μ-loop Inv-look μ-look
-serves-requires c κs = search needs
+mul-measured : tie.Need-mul-measured Inv-loop μ-loop Inv-look μ-look
+mul-measured c = search needs
 
--- src/lib.rt:55:13
+add-measured : tie.Need-add-measured Inv-loop μ-loop Inv-look μ-look
+add-measured c = record { fits = omega (arith, looked-room (c .before .before .before .look .inv .2) (c .before .before .look-test .taken)) }
+
+measured-requires : tie.Need-measured-requires Inv-loop μ-loop Inv-look μ-look
+measured-requires c κs = omega (arith, looked-room (c .before .before .before .look .inv .2) (c .before .before .look-test .taken))
+
 add-k : tie.Need-add-k Inv-loop μ-loop Inv-look μ-look
 add-k c = search needs
 
--- src/lib.rt:50:9
 loop-less : tie.Need-loop-less Inv-loop μ-loop Inv-look μ-look
 loop-less c = search needs
 
--- src/lib.rt:50:9
 loop-again : tie.Need-loop-again Inv-loop μ-loop Inv-look μ-look
-loop-again c = let v = c .before .before .before .loop .inv in (v .0, omega arith, below-more _ _ (v .2) (sym (c .before .serves .ensures) ∙ not-false _ (c .if1 .left)))
+loop-again c =
+    let v = c .before .before .before .loop .inv in
+    (v .0, omega arith, measured-block _ _ _ (v .2) (sym (c .before .measured .ensures) ∙ not-false _ (c .if3 .left)))
 
--- src/lib.rt:57:9
 add-side : tie.Need-add-side Inv-loop μ-loop Inv-look μ-look
 add-side c = search needs
 
--- src/lib.rt:48:5
 look-less : tie.Need-look-less Inv-loop μ-loop Inv-look μ-look
 look-less c = search needs
 
--- src/lib.rt:48:5
 look-again : tie.Need-look-again Inv-loop μ-loop Inv-look μ-look
-look-again c = let v = c .before .before .before .look .inv in let u = c .before .loop .inv in
-    (u .0, omega arith, below-more _ _ (v .2) (side-all _ _ _ _ _ _ (u .2) (c .loop-test .left)))
+look-again c =
+    let v = c .before .loop .inv in
+    let q : c .before .loop .k ≡ c .before .before .before .before .before .before .before .args .blocks = omega (arith, v .1, c .loop-test .left) in (
+      v .0,
+      omega arith,
+      looked-side (c .before .before .before .look .inv .2) (subst (λ (n : ℕ). Measured (c .before .before .before .before .before .before .before .args .reading .now) (c .before .before .before .look .from) (16 * n)) q (v .2)),
+    )
 
--- src/lib.rt:42:1
-returns : tie.Need-returns Inv-loop μ-loop Inv-look μ-look
-returns c = c .before .look .inv .0 ∙ sym (whole-all _ _ _ _ _ (c .before .look .inv .2) (c .look-test .left))
+returns-3 : tie.Need-returns-3 Inv-loop μ-loop Inv-look μ-look
+returns-3 c = c .before .look .inv .0 ∙ sym (looked-all (c .before .look .inv .2) (omega (arith, c .look-test .left)))
 
--- src/lib.rt:42:1
-returns-2 : tie.Need-returns-2 Inv-loop μ-loop Inv-look μ-look
-returns-2 c = sym (whole-fails _ _ _ _ _ _ (c .before .before .before .before .look-test .taken) (c .before .before .loop-test .taken) (sym (c .before .serves .ensures) ∙ not-true _ (c .if1 .taken)))
+returns-4 : tie.Need-returns-4 Inv-loop μ-loop Inv-look μ-look
+returns-4 c =
+    looked-fails (c .before .before .before .before .before .look .inv .2) _ _ refl (c .before .before .before .before .look-test .taken) (c .before .before .loop-test .taken)
+    (sym (c .before .measured .ensures) ∙ not-true _ (c .if3 .taken))
 
 pub windows-whole-spec : {M : Type 1} → statement M
 windows-whole-spec =
@@ -85,14 +96,20 @@ windows-whole-spec =
     μ-loop
     Inv-look
     μ-look
+    mul-w
+    returns
+    add-if2
+    returns-2
     look-holds
     loop-holds
-    serves-requires
+    mul-measured
+    add-measured
+    measured-requires
     add-k
     loop-less
     loop-again
     add-side
     look-less
     look-again
-    returns
-    returns-2)
+    returns-3
+    returns-4)
