@@ -6,7 +6,7 @@ use mathlib.Core.List.{List, [], _∷_, _++_, append-assoc, append-nil}
 use mathlib.Core.Logic.{_⊎_, inl, inr, ⊎-elim}
 use native.Mathlib.Omega.{arith}
 use lib.ListN.{length, getD, take, drop, length-append, take-append-drop, length-take}
-use lib.Seq.{take-suc, take-append-seam, take-append-le, drop-append-seam, drop-append-le, length-take-le, take-take, take-length}
+use lib.Seq.{take-suc, take-append-seam, take-append-le, drop-append-seam, drop-append-le, length-take-le, take-take, take-length, getD-take, getD-append-add}
 use Rattle.text.specs.Form.{Form, Of, Begun, Started, Stands, ReadAs, Broken, RefusedAt}
 use Rattle.text.proofs.Decimals.{below-or, order}
 
@@ -65,6 +65,13 @@ stands-grows t i j k v w s r h =
 pub stands-length : (t : List ℕ) (i k : ℕ) (w : List ℕ) → Stands t i k w → i ≤ length t → k ≡ i + length w
 stands-length t i k w s h =
     sym (length-take-le k t (s .within)) ∙ ap length (s .is) ∙ length-append (take i t) w ∙ ap (λ (n : ℕ). n + length w) (length-take-le i t h)
+
+-- byte j of a part
+pub stands-at : (t : List ℕ) (i k j : ℕ) (w : List ℕ) → Stands t i k w → i ≤ length t → j < length w → getD t (i + j) 0 ≡ getD w j 0
+stands-at t i k j w s h less =
+    let long : k ≡ i + length w = stands-length t i k w s h in
+    sym (getD-take k t (i + j) 0 (omega arith)) ∙ ap (λ (l : List ℕ). getD l (i + j) 0) (s .is)
+    ∙ ap (λ (n : ℕ). getD (take i t ++ w) (n + j) 0) (sym (length-take-le i t h)) ∙ getD-append-add (take i t) w j 0
 
 -- ---- forms whose texts do not begin one another
 

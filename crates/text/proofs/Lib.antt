@@ -1,6 +1,7 @@
 pub mod Decimals
 pub mod Forms
 pub mod Numbers
+pub mod Keys
 pub mod Writing
 pub mod Signs
 pub mod Lines

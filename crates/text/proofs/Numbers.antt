@@ -2,6 +2,7 @@
 -- Assumes nothing.
 use Prim.Native.Nat.{ℕ, zero, suc, _+_, _*_, _-_, _≤_, _<_}
 use mathlib.Core.Path.{_≡_, refl, sym, ap, _∙_, subst}
+use mathlib.Core.Bool.{Bool, true, false}
 use mathlib.Core.List.{List, [], _∷_, _++_, append-assoc, append-nil}
 use mathlib.Core.Logic.{_⊎_, inl, inr, ⊎-elim}
 use native.Mathlib.Omega.{arith}
@@ -10,6 +11,8 @@ use native.Mathlib.Numerals.{add-one}
 use lib.ListN.{length, getD, take, drop, length-append, take-append-drop, List·getD-append}
 use lib.Seq.{drop-cons, length-take-le, take-all, take-suc}
 use lib.IntN.{ℤ, pos, negsuc}
+use lib.Dec.{ltb}
+use borrow.Author.Tests.{lt-ltb, le-ltb}
 use Rattle.text.specs.Form.{Form, Of, Begun, Started, Stands, ReadAs, Broken}
 use Rattle.text.specs.Decimal.{dec, decimal, Range, Fit, number, plain, signed}
 use Rattle.text.specs.Line.{line, lineOf}
@@ -134,6 +137,11 @@ next-digit t i k v d h hv hd e s =
 
 pub number-ends : (t : List ℕ) (i k e : ℕ) (w : List ℕ) → k < length t → getD t k 0 ≡ e → Stands t i k w → Stands t i (k + 1) (w ++ (e ∷ []))
 number-ends t i k e w h eq s = rw (add-one k) (subst (λ (c : ℕ). Stands t i (suc k) (w ++ (c ∷ []))) eq (stands-one t i k w s h))
+
+-- r says whether m is below n
+pub tells : (m n : ℕ) (r : Bool) → (r ≡ true → m < n) → (r ≡ false → n ≤ m) → r ≡ ltb m n
+tells m n true below above = sym (lt-ltb m n (below refl))
+tells m n false below above = sym (le-ltb m n (above refl))
 
 -- ---- signed numbers
 

@@ -1,11 +1,12 @@
 -- The answers of the readers are settled by their contracts, and reading is the inverse of printing. Assumes nothing.
 use Prim.Native.Nat.{ℕ, _+_, _≤_, _<_}
-use mathlib.Core.Path.{_≡_, sym, ap, _∙_}
+use mathlib.Core.Path.{_≡_, refl, sym, ap, _∙_}
+use mathlib.Core.Bool.{Bool, true, false}
 use mathlib.Core.List.{List, [], _∷_, _++_, append-assoc}
 use native.Mathlib.Omega.{arith}
 use mathlib.Core.Logic.{⊎-elim}
 use lib.ListN.{length, getD, take, length-append}
-use lib.Seq.{take-append-add, take-append-seam, length-take-le, getD-take, getD-append-add}
+use lib.Seq.{take-append-add, take-append-seam, length-take-le, getD-take}
 use lib.IntN.{ℤ, pos, negsuc}
 use Rattle.text.specs.declared.Natural.{Natural}
 use Rattle.text.specs.declared.Natural.the-variants as Natural
@@ -13,9 +14,9 @@ use Rattle.text.specs.declared.Whole.{Whole}
 use Rattle.text.specs.declared.Whole.the-variants as Whole
 use Rattle.text.specs.Form.{Form, Stands, ReadAs}
 use Rattle.text.specs.Decimal.{decimal, Range, Fit, number}
-use Rattle.text.specs.Answer.{NaturalIn, WholeIn, Matched, DigitOf, Put}
-use Rattle.text.proofs.Decimals.{below-or, order}
-use Rattle.text.proofs.Forms.{Free, read-once, broken-not-read, broken-once}
+use Rattle.text.specs.Answer.{NaturalIn, WholeIn, Matched, SameKey, Put}
+use Rattle.text.proofs.Decimals.{order}
+use Rattle.text.proofs.Forms.{Free, stands-at, read-once, broken-not-read, broken-once}
 use Rattle.text.proofs.Numbers.{number-free}
 
 -- A text in the middle of another stands there.
@@ -70,11 +71,8 @@ module _ (r : Range) (e : ℕ) (he : e < 48) (before after : List ℕ) where
 
 matched-more : (t : List ℕ) (i m n : ℕ) (key : List ℕ) → i ≤ length t → Matched t i key m → Matched t i key n → m < n → ⊥
 matched-more t i m n key h a b less =
-    let long : i ≡ length (take i t) = sym (length-take-le i t h) in
     let there : getD t (i + m) 0 ≡ getD key m 0 =
-    sym (getD-take (i + n) t (i + m) 0 (omega arith)) ∙ ap (λ (l : List ℕ). getD l (i + m) 0) (b .stands .is)
-    ∙ ap (λ (k : ℕ). getD (take i t ++ take n key) (k + m) 0) long
-    ∙ getD-append-add (take i t) (take n key) m 0 ∙ getD-take n key m 0 less
+    stands-at t i (i + n) m (take n key) (b .stands) h (omega (arith, length-take-le n key (b .most))) ∙ getD-take n key m 0 less
     in
     a .ends (omega (arith, b .most)) (omega (arith, b .stands .within)) there
 
@@ -82,14 +80,11 @@ pub matched-settled : (t : List ℕ) (i m n : ℕ) (key : List ℕ) → i ≤ le
 matched-settled t i m n key h a b =
     ⊎-elim (λ l. absurd (matched-more t i m n key h a b l)) (⊎-elim (λ e. e) (λ l. absurd (matched-more t i n m key h b a l))) (order m n)
 
-pub digit-settled : (b r s : ℕ) → DigitOf b r → DigitOf b s → r ≡ s
-digit-settled b r s p q =
-    ⊎-elim
-    (λ x.
-    ⊎-elim (λ y. omega (arith, p .is x, q .is y)) (λ y. absurd (q .other y (omega (arith, p .is x)) (omega (arith, p .is x)))) (below-or s 10))
-    (λ x.
-    ⊎-elim (λ y. absurd (p .other x (omega (arith, q .is y)) (omega (arith, q .is y)))) (λ y. omega (arith, p .most, q .most)) (below-or s 10))
-    (below-or r 10)
+pub same-settled : (t : List ℕ) (i : ℕ) (key : List ℕ) (r s : Bool) → SameKey t i key r → SameKey t i key s → r ≡ s
+same-settled t i key true true a b = refl
+same-settled t i key true false a b = absurd (b .other refl (a .whole refl))
+same-settled t i key false true a b = absurd (a .other refl (b .whole refl))
+same-settled t i key false false a b = refl
 
 pub put-settled : (old w new other : List ℕ) (i p q : ℕ) → Put old i w new p → Put old i w other q → (new ≡ other) × (p ≡ q)
 put-settled old w new other i p q a b = (a .is ∙ sym (b .is), a .stops ∙ sym (b .stops))

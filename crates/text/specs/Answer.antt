@@ -1,6 +1,7 @@
 -- What the readers' answers mean, over any form of numbers.
-use Prim.Native.Nat.{ℕ, _+_, _^_, _≤_, _<_}
+use Prim.Native.Nat.{ℕ, _+_, _*_, _^_, _≤_, _<_}
 use mathlib.Core.Path.{_≡_}
+use mathlib.Core.Bool.{Bool, true, false}
 use mathlib.Core.List.{List, [], _∷_, _++_}
 use lib.ListN.{length, take, drop, getD}
 use lib.Seq.{sets}
@@ -36,6 +37,15 @@ pub record Matched (t : List ℕ) (start : ℕ) (key : List ℕ) (n : ℕ) : Typ
   pub stands : Stands t start (start + n) (take n key)
   pub ends : n < length key → start + n < length t → getD t (start + n) 0 ≡ getD key n 0 → ⊥
 
+-- The whole key stands in t from `start`, or does not.
+pub record SameKey (t : List ℕ) (start : ℕ) (key : List ℕ) (r : Bool) : Type 0 where
+  pub whole : r ≡ true → Stands t start (start + length key) key
+  pub other : r ≡ false → Stands t start (start + length key) key → ⊥
+
+-- four bytes as one number, the first the lowest
+abbrev pub wordAt : List ℕ → ℕ → ℕ
+wordAt t p = getD t p 0 + 256 * getD t (p + 1) 0 + 65536 * getD t (p + 2) 0 + 16777216 * getD t (p + 3) 0
+
 -- w was written from `start`, where the buffer has room, nothing else changed, and `stop` is the place after it.
 pub record Put (old : List ℕ) (start : ℕ) (w new : List ℕ) (stop : ℕ) : Type 0 where
   pub stops : stop ≡ start + length w
@@ -47,12 +57,6 @@ pub record Leads (w old new : List ℕ) (n : ℕ) : Type 0 where
   pub room : n ≤ length old
   pub is : new ≡ w ++ drop n old
   pub part : n ≡ length (take n new)
-
--- r is the value of the digit b, or 10 if b is none.
-pub record DigitOf (b r : ℕ) : Type 0 where
-  pub most : r ≤ 10
-  pub is : r < 10 → b ≡ 48 + r
-  pub other : 10 ≤ r → 48 ≤ b → b ≤ 57 → ⊥
 
 -- What a reader of numbers is asked: a place of the text, a range with a number in it, an end that is no digit.
 pub record Asked (t : List ℕ) (start least most end : ℕ) : Type 0 where

@@ -1,15 +1,16 @@
 // Decimals and key=value lines, printed into a lent buffer and read from a text.
 // The records' and the sheet's texts are made of these parts; what a form is and what a refusal means is in specs/Form.antt.
-ghost use Prim.Native.Nat.{_+_, _^_, _≤_, _<_};
+ghost use Prim.Native.Nat.{_+_, _*_, _^_, _≤_, _<_};
 ghost use mathlib.Core.Path.{_≡_};
 ghost use mathlib.Core.List.{[], _∷_};
+ghost use lib.Dec.{ltb};
 ghost use lib.ListN.{length, set};
 ghost use mathlib.Core.Bool.{false};
 ghost use lib.IntN.{pos, negsuc};
 ghost use lib.Signed.{nonNeg};
 ghost use Rattle.text.specs.Decimal.{dec, decimal, number, plain, signed};
 ghost use Rattle.text.specs.Line.{lineOf, line};
-ghost use Rattle.text.specs.Answer.{Put, NaturalIn, WholeIn, wrongAt, wholeWrongAt, Matched, DigitOf, Asked, AskedSigned};
+ghost use Rattle.text.specs.Answer.{Put, NaturalIn, WholeIn, wrongAt, wholeWrongAt, Matched, SameKey, wordAt, Asked, AskedSigned};
 
 // An unsigned number and the place after it, or the place of the first byte that cannot stand there.
 pub enum Natural {
@@ -154,6 +155,17 @@ pub fn matched(t: &[u8], start: usize, key: &[u8]) -> usize
     requires { ⌜ start ≤ length (now t) ⌝ }
     ensures { λ r. ⌜ Matched (now (t .entry)) start (now (key .entry)) r ⌝ }
 {
+    if same(t, start, key) {
+        return key.len();
+    }
+    agreed(t, start, key)
+}
+
+// The same, byte by byte: for a text that goes another way.
+fn agreed(t: &[u8], start: usize, key: &[u8]) -> usize
+    requires { ⌜ start ≤ length (now t) ⌝ }
+    ensures { λ r. ⌜ Matched (now (t .entry)) start (now (key .entry)) r ⌝ }
+{
     let mut i = 0;
     while i < key.len() {
         if start + i >= t.len() {
@@ -167,17 +179,48 @@ pub fn matched(t: &[u8], start: usize, key: &[u8]) -> usize
     i
 }
 
-// The value of a digit, and 10 for any other byte.
-fn digit(b: u8) -> u64
-    ensures { λ r. ⌜ DigitOf b r ⌝ }
+// Whether the whole key stands in t from `start`. Room is tested once, and four bytes are compared as one number.
+// Rules out: true for a key whose last byte differs; true where the text stops inside the key.
+fn same(t: &[u8], start: usize, key: &[u8]) -> bool
+    requires { ⌜ start ≤ length (now t) ⌝ }
+    ensures { λ r. ⌜ SameKey (now (t .entry)) start (now (key .entry)) r ⌝ }
 {
-    if b < 48 {
-        return 10;
+    let n = key.len();
+    if t.len() - start < n {
+        return false;
     }
-    if b > 57 {
-        return 10;
+    let mut i = 0;
+    while i + 4 <= n {
+        if word(t, start + i) != word(key, i) {
+            return false;
+        }
+        i += 4;
     }
-    (b - 48) as u64
+    while i < n {
+        if t[start + i] != key[i] {
+            return false;
+        }
+        i += 1;
+    }
+    true
+}
+
+// Four bytes as one number, which a processor reads at one go.
+fn word(t: &[u8], p: usize) -> u64
+    requires { ⌜ p + 4 ≤ length (now t) ⌝ }
+    ensures { λ r. ⌜ r ≡ wordAt (now (t .entry)) p ⌝ }
+{
+    t[p] as u64 + 256 * t[p + 1] as u64 + 65536 * t[p + 2] as u64 + 16777216 * t[p + 3] as u64
+}
+
+// Whether 10 v + d, which may be too large for 64 bits, is above `most`. Rules out: the border itself; a sum that wraps.
+fn exceeds(v: u64, d: u64, most: u64) -> bool
+    ensures { λ r. ⌜ r ≡ ltb most (10 * v + d) ⌝ }
+{
+    if d > most {
+        return true;
+    }
+    v > (most - d) / 10
 }
 
 // Reads an unsigned number from `least`, 0 or 1, to `most`, ended by the byte `end`, which is below the digits.
@@ -189,36 +232,48 @@ pub fn read_natural(t: &[u8], start: usize, least: u64, most: u64, end: u8) -> N
     if start >= t.len() {
         return Natural::Wrong(start);
     }
-    let first = digit(t[start]);
-    if first > 9 {
+    let first = t[start];
+    if first < 48 {
         return Natural::Wrong(start);
     }
-    if first < least {
+    if first > 57 {
         return Natural::Wrong(start);
     }
-    if first > most {
+    let mut v = (first - 48) as u64;
+    if v < least {
         return Natural::Wrong(start);
     }
-    let mut v = first;
+    if v > most {
+        return Natural::Wrong(start);
+    }
     let mut i = start + 1;
+    if v == 0 {
+        if i < t.len() {
+            if t[i] == end {
+                return Natural::Value(0, i + 1);
+            }
+        }
+        return Natural::Wrong(i);
+    }
+    // Below this a digit more stays within `most`, so that only a number near it is looked at closely.
+    let safe = most / 10;
     while i < t.len() {
-        if t[i] == end {
-            return Natural::Value(v, i + 1);
-        }
-        let d = digit(t[i]);
-        if d > 9 {
+        let b = t[i] as u64;
+        if b < 48 {
+            if t[i] == end {
+                return Natural::Value(v, i + 1);
+            }
             return Natural::Wrong(i);
         }
-        if v == 0 {
+        if b > 57 {
             return Natural::Wrong(i);
         }
-        if d > most {
-            return Natural::Wrong(i);
+        if v >= safe {
+            if exceeds(v, b - 48, most) {
+                return Natural::Wrong(i);
+            }
         }
-        if v > (most - d) / 10 {
-            return Natural::Wrong(i);
-        }
-        v = 10 * v + d;
+        v = 10 * v + (b - 48);
         i += 1;
     }
     Natural::Wrong(i)

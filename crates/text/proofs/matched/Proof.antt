@@ -1,70 +1,21 @@
--- `text::matched` meets its contract. The invariant: the first i bytes of the key stand there. Assumes nothing.
-use Prim.Native.Nat.{_+_, _-_, _≤_}
-use native.Mathlib.Omega.{arith}
-use borrow.Author.Needs.{needs}
-use lib.ListN.{length, take}
+-- `text::matched` meets its contract: by the quick test, or byte by byte. Assumes nothing.
 use denote.Ref.{now}
-use Rattle.text.specs.Form.{Stands}
-use Rattle.text.proofs.Numbers.{key-start, key-step}
+use borrow.Author.Needs.{needs}
+use Rattle.text.proofs.Keys.{matched-whole}
 use Rattle.text.proofs.matched.Statement.{statement}
 use Rattle.text.proofs.matched.Tie as tie
 
-abbrev Inv-loop : tie.InvT-loop
-Inv-loop t start key i₀ i = (i ≤ length key) × Stands t start (start + i) (take i key)
+same-requires : tie.Need-same-requires
+same-requires c κs = search needs
 
-abbrev μ-loop : tie.MeasureT-loop
-μ-loop t start key i₀ i = length key - i
+returns : tie.Need-returns
+returns c = let a = c .before .before .before .before .args in matched-whole (now (a .t)) (a .start) (now (a .key)) (c .before .same .result) (c .before .same .ensures) (c .if1 .taken)
 
-loop-holds : tie.Need-loop-holds Inv-loop μ-loop
-loop-holds c = (omega arith, key-start (now (c .args .t)) (now (c .args .key)) (c .args .start) (c .pre))
+agreed-requires : tie.Need-agreed-requires
+agreed-requires c κs = search needs
 
-add-if1 : tie.Need-add-if1 Inv-loop μ-loop
-add-if1 c = search needs
-
-returns : tie.Need-returns Inv-loop μ-loop
-returns c = record { most = omega arith; stands = c .before .before .loop .inv .1; ends = λ h g e. omega arith }
-
-add-if2 : tie.Need-add-if2 Inv-loop μ-loop
-add-if2 c = search needs
-
-shared-slice-read-if2 : tie.Need-shared-slice-read-if2 Inv-loop μ-loop
-shared-slice-read-if2 c = search needs
-
-shared-slice-read-if2-2 : tie.Need-shared-slice-read-if2-2 Inv-loop μ-loop
-shared-slice-read-if2-2 c = search needs
-
-returns-2 : tie.Need-returns-2 Inv-loop μ-loop
-returns-2 c = record { most = omega arith; stands = c .before .before .before .before .before .loop .inv .1; ends = λ h g e. c .if2 .taken e }
-
-add-i : tie.Need-add-i Inv-loop μ-loop
-add-i c = search needs
-
-loop-less : tie.Need-loop-less Inv-loop μ-loop
-loop-less c = search needs
-
-loop-again : tie.Need-loop-again Inv-loop μ-loop
-loop-again c = (
-  omega arith,
-  key-step (now (c .before .before .before .before .before .before .args .t)) (now (c .before .before .before .before .before .before .args .key)) (c .before .before .before .before .before .before .args .start) (c .before .before .before .before .before .loop .i) (omega arith) (omega arith) (c .if2 .left) (c .before .before .before .before .before .loop .inv .1),
-)
-
-returns-3 : tie.Need-returns-3 Inv-loop μ-loop
-returns-3 c = record { most = omega arith; stands = c .before .loop .inv .1; ends = λ h g e. omega arith }
+returns-2 : tie.Need-returns-2
+returns-2 c = c .agreed .ensures
 
 pub matched-spec : {M : Type 1} → statement M
-matched-spec =
-    tie.close
-    (tie.spec
-    Inv-loop
-    μ-loop
-    loop-holds
-    add-if1
-    returns
-    add-if2
-    shared-slice-read-if2
-    shared-slice-read-if2-2
-    returns-2
-    add-i
-    loop-less
-    loop-again
-    returns-3)
+matched-spec = tie.close (tie.spec same-requires returns agreed-requires returns-2)

@@ -1,29 +1,38 @@
--- `text::read_natural` meets its contract. The invariant: the digits of v, which is in the range, stand from the start. Assumes nothing.
-use Prim.Native.Nat.{ℕ, _-_, _≤_}
+-- `text::read_natural` meets its contract. The invariant: the digits of v, which is in the range and not 0, stand from the start. Assumes nothing.
+use Prim.Native.Nat.{ℕ, _+_, _*_, _-_, _≤_, _<_}
 use native.Mathlib.Omega.{arith}
-use borrow.Author.Needs.{needs}
 use mathlib.Core.List.{List}
-use lib.ListN.{length}
+use mathlib.Core.Path.{_≡_, sym, _∙_}
+use mathlib.Core.Logic.{inl, inr, ⊎-elim}
+use borrow.Author.Tests.{ltb-true, ltb-false}
+use lib.ListN.{length, getD}
 use denote.Ref.{now}
-use Rattle.text.specs.Form.{Stands}
+use Rattle.text.specs.Form.{Of, Stands, Broken}
 use Rattle.text.specs.Answer.{Asked}
-use Rattle.text.specs.Decimal.{dec}
+use Rattle.text.specs.Decimal.{dec, number, plain}
+use Rattle.text.proofs.Decimals.{Digit}
 use Rattle.text.proofs.Numbers.{broken-first, broken-later, first-digit, next-digit, number-ends}
-use mathlib.Core.Logic.{inl, inr}
 use Rattle.text.proofs.read_natural.Statement.{statement}
 use Rattle.text.proofs.read_natural.Tie as tie
 
 record Reading (t : List ℕ) (start least most end v i : ℕ) : Type 0 where
   asked : Asked t start least most end
+  some : 0 < v
   low : least ≤ v
   high : v ≤ most
   stands : Stands t start i (dec v)
 
+-- The byte at i neither ends the number nor goes on with it.
+breaks : {t : List ℕ} {start least most end v i : ℕ} → Reading t start least most end v i → (i < length t → getD t i 0 ≡ end → ⊥)
+    → (i < length t → Digit (getD t i 0) → most < 10 * v + (getD t i 0 - 48)) → Broken (Of (number (plain least most) end)) t start i
+breaks {t} {start} {least} {most} {end} {v} {i} r other over =
+    broken-later t start i v least most end (r .asked .stop) (r .low) (r .high) (r .stands) other (λ inside g h. over inside g)
+
 abbrev Inv-loop : tie.InvT-loop
-Inv-loop t start least most end first v₀ i₀ v i = Reading t start least most end v i
+Inv-loop t start least most end first v₀ i₀ safe v i = Reading t start least most end v i
 
 abbrev μ-loop : tie.MeasureT-loop
-μ-loop t start least most end first v₀ i₀ v i = length t - i
+μ-loop t start least most end first v₀ i₀ safe v i = length t - i
 
 returns : tie.Need-returns Inv-loop μ-loop
 returns c =
@@ -31,97 +40,124 @@ returns c =
     broken-first (now (a .t)) (a .start) (a .least) (a .most) (a .end) (c .before .before .pre .range) (c .before .before .pre .low) (c .before .before .pre .within)
     (λ inside g. absurd (omega arith))
 
-shared-slice-read-digit : tie.Need-shared-slice-read-digit Inv-loop μ-loop
-shared-slice-read-digit c = omega arith
-
-digit-requires : tie.Need-digit-requires Inv-loop μ-loop
-digit-requires c κs = search needs
+shared-slice-read-first : tie.Need-shared-slice-read-first Inv-loop μ-loop
+shared-slice-read-first c = omega arith
 
 returns-2 : tie.Need-returns-2 Inv-loop μ-loop
 returns-2 c =
-    let a = c .before .before .before .before .before .args in
-    broken-first (now (a .t)) (a .start) (a .least) (a .most) (a .end) (c .before .before .before .before .before .pre .range) (c .before .before .before .before .before .pre .low) (c .before .before .before .before .before .pre .within)
-    (λ inside g. absurd (c .before .digit .ensures .other (omega arith) (g .low) (g .high)))
+    let a = c .before .before .before .before .args in
+    broken-first (now (a .t)) (a .start) (a .least) (a .most) (a .end) (c .before .before .before .before .pre .range) (c .before .before .before .before .pre .low) (c .before .before .before .before .pre .within)
+    (λ inside g. absurd (omega (arith, g .low)))
 
 returns-3 : tie.Need-returns-3 Inv-loop μ-loop
 returns-3 c =
-    let a = c .before .before .before .before .before .before .args in
-    broken-first (now (a .t)) (a .start) (a .least) (a .most) (a .end) (c .before .before .before .before .before .before .pre .range) (c .before .before .before .before .before .before .pre .low) (c .before .before .before .before .before .before .pre .within)
-    (λ inside g. inl (omega (arith, c .before .before .digit .ensures .is (omega arith))))
+    let a = c .before .before .before .before .before .args in
+    broken-first (now (a .t)) (a .start) (a .least) (a .most) (a .end) (c .before .before .before .before .before .pre .range) (c .before .before .before .before .before .pre .low) (c .before .before .before .before .before .pre .within)
+    (λ inside g. absurd (omega (arith, g .high)))
+
+cast-v : tie.Need-cast-v Inv-loop μ-loop
+cast-v c = omega arith
 
 returns-4 : tie.Need-returns-4 Inv-loop μ-loop
 returns-4 c =
+    let a = c .before .before .before .before .before .before .args in
+    broken-first (now (a .t)) (a .start) (a .least) (a .most) (a .end) (c .before .before .before .before .before .before .pre .range) (c .before .before .before .before .before .before .pre .low) (c .before .before .before .before .before .before .pre .within)
+    (λ inside g. inl (omega arith))
+
+returns-5 : tie.Need-returns-5 Inv-loop μ-loop
+returns-5 c =
     let a = c .before .before .before .before .before .before .before .args in
     broken-first (now (a .t)) (a .start) (a .least) (a .most) (a .end) (c .before .before .before .before .before .before .before .pre .range) (c .before .before .before .before .before .before .before .pre .low) (c .before .before .before .before .before .before .before .pre .within)
-    (λ inside g. inr (omega (arith, c .before .before .before .digit .ensures .is (omega arith))))
+    (λ inside g. inr (omega arith))
 
 add-i : tie.Need-add-i Inv-loop μ-loop
 add-i c = omega arith
 
-loop-holds : tie.Need-loop-holds Inv-loop μ-loop
-loop-holds c =
-    let a = c .before .before .before .before .before .before .before .args in
-    record {
-      asked = c .before .before .before .before .before .before .before .pre;
-      low = omega arith;
-      high = omega arith;
-      stands = first-digit (now (a .t)) (a .start) (c .before .before .before .digit .result) (omega arith) (omega arith) (c .before .before .before .digit .ensures .is (omega arith));
-    }
+shared-slice-read-if8 : tie.Need-shared-slice-read-if8 Inv-loop μ-loop
+shared-slice-read-if8 c = omega arith
 
-shared-slice-read-if5 : tie.Need-shared-slice-read-if5 Inv-loop μ-loop
-shared-slice-read-if5 c = omega arith
+add-t20 : tie.Need-add-t20 Inv-loop μ-loop
+add-t20 c = omega arith
 
-add-t18 : tie.Need-add-t18 Inv-loop μ-loop
-add-t18 c = omega arith
-
-returns-5 : tie.Need-returns-5 Inv-loop μ-loop
-returns-5 c =
-    let a = c .before .before .before .before .before .before .before .before .before .before .before .args in
-    let l = c .before .before .before .loop in
-    record {
-      taken = (l .inv .low, l .inv .high);
-      stands = number-ends (now (a .t)) (a .start) (l .i) (a .end) (dec (l .v)) (omega arith) (c .if5 .taken) (l .inv .stands);
-    }
-
-shared-slice-read-digit-2 : tie.Need-shared-slice-read-digit-2 Inv-loop μ-loop
-shared-slice-read-digit-2 c = omega arith
-
-digit-requires-2 : tie.Need-digit-requires-2 Inv-loop μ-loop
-digit-requires-2 c κs = search needs
+-- The digit 0 alone.
+zero : (c : tie.Then6 Inv-loop μ-loop) → Stands (now (c .before .before .before .before .before .before .before .before .args .t)) (c .before .before .before .before .before .before .before .before .args .start) (c .before .before .before .before .before .before .before .before .args .start + 1) (dec 0)
+zero c = let a = c .before .before .before .before .before .before .before .before .args in first-digit (now (a .t)) (a .start) 0 (omega arith) (omega arith) (omega arith)
 
 returns-6 : tie.Need-returns-6 Inv-loop μ-loop
 returns-6 c =
-    let a = c .before .before .before .before .before .before .before .before .before .before .before .before .before .before .args in
-    let l = c .before .before .before .before .before .before .loop in
-    broken-later (now (a .t)) (a .start) (l .i) (l .v) (a .least) (a .most) (a .end) (l .inv .asked .stop) (l .inv .low) (l .inv .high) (l .inv .stands)
-    (λ inside e. c .before .before .before .if5 .left e) (λ inside g h. absurd (c .before .digit2 .ensures .other (omega arith) (g .low) (g .high)))
+    let a = c .before .before .before .before .before .before .before .before .before .before .before .args in
+    record {
+      taken = (omega arith, omega arith);
+      stands = number-ends (now (a .t)) (a .start) (a .start + 1) (a .end) (dec 0) (omega arith) (c .if8 .taken) (zero (c .before .before .before));
+    }
 
 returns-7 : tie.Need-returns-7 Inv-loop μ-loop
 returns-7 c =
-    let a = c .before .before .before .before .before .before .before .before .before .before .before .before .before .before .before .args in
-    let l = c .before .before .before .before .before .before .before .loop in
-    broken-later (now (a .t)) (a .start) (l .i) (l .v) (a .least) (a .most) (a .end) (l .inv .asked .stop) (l .inv .low) (l .inv .high) (l .inv .stands)
-    (λ inside e. c .before .before .before .before .if5 .left e) (λ inside g h. omega arith)
+    let a = c .before .before .before .before .before .before .before .before .before .before .before .args in
+    broken-later (now (a .t)) (a .start) (a .start + 1) 0 (a .least) (a .most) (a .end) (c .before .before .before .before .before .before .before .before .before .before .before .pre .stop) (omega arith) (omega arith) (zero (c .before .before .before))
+    (λ inside e. c .if8 .left e) (λ inside g h. omega arith)
 
 returns-8 : tie.Need-returns-8 Inv-loop μ-loop
 returns-8 c =
-    let a = c .before .before .before .before .before .before .before .before .before .before .before .before .before .before .before .before .args in
-    let l = c .before .before .before .before .before .before .before .before .loop in
-    broken-later (now (a .t)) (a .start) (l .i) (l .v) (a .least) (a .most) (a .end) (l .inv .asked .stop) (l .inv .low) (l .inv .high) (l .inv .stands)
-    (λ inside e. c .before .before .before .before .before .if5 .left e) (λ inside g h. omega (arith, c .before .before .before .digit2 .ensures .is (omega arith)))
+    let a = c .before .before .before .before .before .before .before .before .before .args in
+    broken-later (now (a .t)) (a .start) (a .start + 1) 0 (a .least) (a .most) (a .end) (c .before .before .before .before .before .before .before .before .before .pre .stop) (omega arith) (omega arith) (zero (c .before))
+    (λ inside e. omega arith) (λ inside g h. omega arith)
+
+loop-holds : tie.Need-loop-holds Inv-loop μ-loop
+loop-holds c =
+    let a = c .before .before .before .before .before .before .before .before .args in
+    record {
+      asked = c .before .before .before .before .before .before .before .before .pre;
+      some = omega arith;
+      low = omega arith;
+      high = omega arith;
+      stands = first-digit (now (a .t)) (a .start) (getD (now (a .t)) (a .start) 0 - 48) (omega arith) (omega arith) (omega arith);
+    }
+
+shared-slice-read-b : tie.Need-shared-slice-read-b Inv-loop μ-loop
+shared-slice-read-b c = omega arith
+
+cast-b : tie.Need-cast-b Inv-loop μ-loop
+cast-b c = omega (arith, c .shared-slice-known4 .given (c .before .before .loop .i))
+
+shared-slice-read-if10 : tie.Need-shared-slice-read-if10 Inv-loop μ-loop
+shared-slice-read-if10 c = omega arith
+
+add-t28 : tie.Need-add-t28 Inv-loop μ-loop
+add-t28 c = omega arith
 
 returns-9 : tie.Need-returns-9 Inv-loop μ-loop
 returns-9 c =
-    let a = c .before .before .before .before .before .before .before .before .before .before .before .before .before .before .before .before .before .args in
-    let l = c .before .before .before .before .before .before .before .before .before .loop in
-    broken-later (now (a .t)) (a .start) (l .i) (l .v) (a .least) (a .most) (a .end) (l .inv .asked .stop) (l .inv .low) (l .inv .high) (l .inv .stands)
-    (λ inside e. c .before .before .before .before .before .before .if5 .left e) (λ inside g h. omega (arith, c .before .before .before .before .digit2 .ensures .is (omega arith)))
+    let a = c .before .before .before .before .before .before .before .before .before .before .before .before .before .before .args in
+    let l = c .before .before .before .before .before .loop in
+    record {
+      taken = (l .inv .low, l .inv .high);
+      stands = number-ends (now (a .t)) (a .start) (l .i) (a .end) (dec (l .v)) (omega arith) (c .if10 .taken) (l .inv .stands);
+    }
+
+returns-10 : tie.Need-returns-10 Inv-loop μ-loop
+returns-10 c = breaks (c .before .before .before .before .before .loop .inv) (λ inside e. c .if10 .left e) (λ inside g. omega (arith, g .low, c .before .before .if9 .taken))
+
+returns-11 : tie.Need-returns-11 Inv-loop μ-loop
+returns-11 c = breaks (c .before .before .before .before .loop .inv) (λ inside e. omega (arith, c .before .before .before .before .loop .inv .asked .stop, c .if11 .taken)) (λ inside g. omega (arith, g .high, c .if11 .taken))
+
+exceeds-requires : tie.Need-exceeds-requires Inv-loop μ-loop
+exceeds-requires c κs = tt
+
+returns-12 : tie.Need-returns-12 Inv-loop μ-loop
+returns-12 c =
+    breaks (c .before .before .before .before .before .before .before .loop .inv) (λ inside e. omega (arith, c .before .before .before .before .before .before .before .loop .inv .asked .stop, c .before .before .before .before .if9 .left))
+    (λ inside g. let over = sym (c .before .exceeds .ensures) ∙ c .if13 .taken in omega (arith, ltb-true))
+
+-- Where v is below `safe` a digit more is within the range, and else `exceeds` has said so.
+within : (c : tie.Joined12 Inv-loop μ-loop) → 10 * c .before .before .before .before .before .loop .v + (getD (now (c .before .before .before .before .before .before .before .before .before .before .before .before .before .before .args .t)) (c .before .before .before .before .before .loop .i) 0 - 48) ≤ c .before .before .before .before .before .before .before .before .before .before .before .before .before .before .args .most
+within c = ⊎-elim (λ w. let under = sym (w .1 .ensures) ∙ w .2 .left in omega (arith, ltb-false)) (λ w. omega arith) (c .if12 .came)
 
 mul-v : tie.Need-mul-v Inv-loop μ-loop
-mul-v c = omega arith
+mul-v c = omega (arith, within c)
 
 add-v : tie.Need-add-v Inv-loop μ-loop
-add-v c = omega arith
+add-v c = omega (arith, within c)
 
 add-i-2 : tie.Need-add-i-2 Inv-loop μ-loop
 add-i-2 c = omega arith
@@ -131,21 +167,18 @@ loop-less c = omega arith
 
 loop-again : tie.Need-loop-again Inv-loop μ-loop
 loop-again c =
-    let a = c .before .before .before .before .before .before .before .before .before .before .before .before .before .before .before .before .before .args in
-    let l = c .before .before .before .before .before .before .before .before .before .loop in
+    let a = c .before .before .before .before .before .before .before .before .before .before .before .before .before .before .args in
+    let l = c .before .before .before .before .before .loop in
     record {
       asked = l .inv .asked;
+      some = omega (arith, l .inv .some);
       low = omega (arith, l .inv .low);
-      high = omega arith;
-      stands = next-digit (now (a .t)) (a .start) (l .i) (l .v) (c .before .before .before .before .digit2 .result) (omega arith) (omega arith) (omega arith) (c .before .before .before .before .digit2 .ensures .is (omega arith)) (l .inv .stands);
+      high = within c;
+      stands = next-digit (now (a .t)) (a .start) (l .i) (l .v) (getD (now (a .t)) (l .i) 0 - 48) (omega arith) (l .inv .some) (omega arith) (omega arith) (l .inv .stands);
     }
 
-returns-10 : tie.Need-returns-10 Inv-loop μ-loop
-returns-10 c =
-    let a = c .before .before .before .before .before .before .before .before .before .args in
-    let l = c .before .loop in
-    broken-later (now (a .t)) (a .start) (l .i) (l .v) (a .least) (a .most) (a .end) (l .inv .asked .stop) (l .inv .low) (l .inv .high) (l .inv .stands)
-    (λ inside e. omega arith) (λ inside g h. omega arith)
+returns-13 : tie.Need-returns-13 Inv-loop μ-loop
+returns-13 c = breaks (c .before .loop .inv) (λ inside e. omega arith) (λ inside g. omega arith)
 
 pub read-natural-spec : {M : Type 1} → statement M
 read-natural-spec =
@@ -154,25 +187,31 @@ read-natural-spec =
     Inv-loop
     μ-loop
     returns
-    shared-slice-read-digit
-    digit-requires
+    shared-slice-read-first
     returns-2
     returns-3
+    cast-v
     returns-4
-    add-i
-    loop-holds
-    shared-slice-read-if5
-    add-t18
     returns-5
-    shared-slice-read-digit-2
-    digit-requires-2
+    add-i
+    shared-slice-read-if8
+    add-t20
     returns-6
     returns-7
     returns-8
+    loop-holds
+    shared-slice-read-b
+    cast-b
+    shared-slice-read-if10
+    add-t28
     returns-9
+    returns-10
+    returns-11
+    exceeds-requires
+    returns-12
     mul-v
     add-v
     add-i-2
     loop-less
     loop-again
-    returns-10)
+    returns-13)
