@@ -111,8 +111,8 @@ side-whole row a e w (suc side) k l m h = m .at k h
 
 module _ {row : List ℕ} {a e w from side : ℕ} (v : Looked row a e w from side) where
   -- a window's entries lie inside the row
-  pub looked-room : side < 2 → from + w ≤ length row
-  looked-room s = go side (v .begins)
+  pub looked-room : from + w ≤ length row
+  looked-room = go side (v .begins)
     where
       go : (d : ℕ) → from ≡ beginOf a e w d → from + w ≤ length row
       go zero q = omega (arith, v .gap, v .room-before, v .room-after)

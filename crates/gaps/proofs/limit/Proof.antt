@@ -1,4 +1,5 @@
 use mathlib.Core.Path.{sym, _∙_}
+use native.Mathlib.Omega.{arith}
 use borrow.Author.Needs.{needs}
 use borrow.Author.Tests.{le-leb, lt-leb}
 use Rattle.gaps.specs.Gaps.{ruleOf}
@@ -12,7 +13,7 @@ returns : tie.Need-returns
 unfolding ruleOf
 returns c =
     let g = c .before .before .args .missing in
-    c .limit .ensures ∙ sym (simp (lt-leb g 23 (c .before .before .pre .1), le-leb g 95 (c .before .if1 .taken)))
+    c .limit .ensures ∙ sym (simp (lt-leb g 23 (omega (arith, c .before .before .pre .1)), le-leb g 95 (omega (arith, c .before .if1 .taken))))
 
 limit-requires-2 : tie.Need-limit-requires-2
 limit-requires-2 c κs = search needs
@@ -21,7 +22,7 @@ returns-2 : tie.Need-returns-2
 unfolding ruleOf
 returns-2 c =
     let g = c .before .before .args .missing in
-    c .limit2 .ensures ∙ sym (simp (lt-leb g 23 (c .before .before .pre .1), lt-leb g 95 (c .before .if1 .left)))
+    c .limit2 .ensures ∙ sym (simp (lt-leb g 23 (omega (arith, c .before .before .pre .1)), lt-leb g 95 (omega (arith, c .before .if1 .left))))
 
 pub limit-spec : {M : Type 1} → statement M
 limit-spec = tie.close (tie.spec limit-requires returns limit-requires-2 returns-2)

@@ -10,13 +10,17 @@ use Rattle.gaps.proofs.replace_gap.Tie as tie
 
 -- the blocks of 16 that are looked at make up the windows
 looked : (c : tie.After-windows-whole)
-    → c .windows-whole .result ≡ whole (c .before .before .before .before .before .args .reading .now) (c .before .before .before .before .before .args .a) (c .before .before .before .before .before .args .e) (c .before .width .result)
+    → c .windows-whole .result
+    ≡ whole (c .before .before .before .before .before .args .reading .now) (c .before .before .before .before .before .args .a)
+    (c .before .before .before .before .before .args .e) (c .before .width .result)
 looked c =
-    c .windows-whole .ensures ∙ ap (whole (c .before .before .before .before .before .args .reading .now) (c .before .before .before .before .before .args .a) (c .before .before .before .before .before .args .e)) (c .before .width .ensures .3)
+    let g = c .before .before .before .before .before .args in
+    c .windows-whole .ensures ∙ ap (whole (g .reading .now) (g .a) (g .e)) (c .before .width .ensures .3)
 
 -- what is known once they are found whole
 ready : (c : tie.Else2)
-    → Ready (c .before .before .before .before .before .before .args .reading .now) (c .before .before .before .before .before .before .args .used .now) (c .before .before .before .before .before .before .args .a) (c .before .before .before .before .before .before .args .e) (c .before .before .width .result)
+    → Ready (c .before .before .before .before .before .before .args .reading .now) (c .before .before .before .before .before .before .args .used .now)
+    (c .before .before .before .before .before .before .args .a) (c .before .before .before .before .before .before .args .e) (c .before .before .width .result)
 ready c =
     record {
       order = c .before .before .before .before .before .before .pre .0;
@@ -52,7 +56,7 @@ returns-2 c =
     (sym (looked (c .before) ∙ ap (whole (g .reading .now) (g .a) (g .e)) (c .before .before .width .ensures .0)) ∙ not-true _ (c .if2 .taken))
 
 sub-first : tie.Need-sub-first
-sub-first c = ready-before (ready (c))
+sub-first c = ready-before (ready c)
 
 add-last : tie.Need-add-last
 add-last c = search needs
@@ -79,7 +83,7 @@ part-mean-of-32-start-2 : tie.Need-part-mean-of-32-start-2
 part-mean-of-32-start-2 c = search needs
 
 part-mean-of-32-end-2 : tie.Need-part-mean-of-32-end-2
-part-mean-of-32-end-2 c = ready-after (ready (c .before .before))
+part-mean-of-32-end-2 c = omega (arith, ready-after (ready (c .before .before)), c .before .before .before .before .before .before .before .before .pre .3 .same-length)
 
 mean-of-32-requires : tie.Need-mean-of-32-requires
 mean-of-32-requires c κs = ready-16 (ready (c .before .before .before)) (omega (arith, c .before .before .if3 .taken))
@@ -112,7 +116,7 @@ part-tally-of-start-2 : tie.Need-part-tally-of-start-2
 part-tally-of-start-2 c = search needs
 
 part-tally-of-end-2 : tie.Need-part-tally-of-end-2
-part-tally-of-end-2 c = ready-after (ready (c .before .before))
+part-tally-of-end-2 c = omega (arith, ready-after (ready (c .before .before)), c .before .before .before .before .before .before .before .before .pre .3 .same-length)
 
 tally-of-requires : tie.Need-tally-of-requires
 tally-of-requires c κs = ready-windows (ready (c .before .before .before))

@@ -49,10 +49,10 @@ mul-measured : tie.Need-mul-measured Inv-loop μ-loop Inv-look μ-look
 mul-measured c = search needs
 
 add-measured : tie.Need-add-measured Inv-loop μ-loop Inv-look μ-look
-add-measured c = record { fits = omega (arith, looked-room (c .before .before .before .look .inv .2) (c .before .before .look-test .taken)) }
+add-measured c = record { fits = omega (arith, looked-room (c .before .before .before .look .inv .2)) }
 
 measured-requires : tie.Need-measured-requires Inv-loop μ-loop Inv-look μ-look
-measured-requires c κs = omega (arith, looked-room (c .before .before .before .look .inv .2) (c .before .before .look-test .taken))
+measured-requires c κs = omega (arith, looked-room (c .before .before .before .look .inv .2))
 
 add-k : tie.Need-add-k Inv-loop μ-loop Inv-look μ-look
 add-k c = search needs
@@ -85,7 +85,7 @@ returns-3 c = c .before .look .inv .0 ∙ sym (looked-all (c .before .look .inv 
 
 returns-4 : tie.Need-returns-4 Inv-loop μ-loop Inv-look μ-look
 returns-4 c =
-    looked-fails (c .before .before .before .before .before .look .inv .2) _ _ refl (c .before .before .before .before .look-test .taken) (c .before .before .loop-test .taken)
+    looked-fails (c .before .before .before .before .before .look .inv .2) _ _ refl (omega (arith, c .before .before .before .before .look-test .taken)) (c .before .before .loop-test .taken)
     (sym (c .before .measured .ensures) ∙ not-true _ (c .if3 .taken))
 
 pub windows-whole-spec : {M : Type 1} → statement M
