@@ -193,8 +193,8 @@ module _ {h : Held} {n : ℕ} {old o f c counts : List ℕ} {methane i : ℕ} (x
       omega arith
 
   -- whichever count it is
-  pub slot-fits : (k : ℕ) → k < 10 → Fits w64 (getD counts k 0 + 1)
-  slot-fits k l =
+  pub slot-fits : (k v : ℕ) → k < 10 → v ≤ 1 → Fits w64 (getD counts k 0 + v)
+  slot-fits k v l z =
       let a : countOf i (λ m. entryAt h m .outcome) k ≤ i * 1 = count-most i (λ m. entryAt h m .outcome) k in
       let b : getD counts k 0 ≡ countOf i (λ m. entryAt h m .outcome) k = x .each k l in
       let w : i ≤ n = x .within in

@@ -124,7 +124,7 @@ array-read-counts : tie.Need-array-read-counts Inv-loop μ-loop
 array-read-counts c = search needs
 
 add-counts : tie.Need-add-counts Inv-loop μ-loop
-add-counts c = let t = turn (c .before .before .before .before .before .before) in slot-fits (t .before .loop .inv) _ (omega arith)
+add-counts c = let t = turn (c .before .before .before .before .before .before) in slot-fits (t .before .loop .inv) _ _ (omega arith) (omega arith)
 
 array-write-counts : tie.Need-array-write-counts Inv-loop μ-loop
 array-write-counts c = search needs
@@ -208,7 +208,7 @@ array-read-counts-2 : tie.Need-array-read-counts-2 Inv-loop μ-loop
 array-read-counts-2 c = let t = turn (c .before .before .before .before .before .before .before .before .before) in going-few (t .before .loop .inv) (t .loop-test .taken) _ (got c)
 
 add-counts-2 : tie.Need-add-counts-2 Inv-loop μ-loop
-add-counts-2 c = let t = turn (c .before .before .before .before .before .before .before .before .before) in slot-fits (t .before .loop .inv) (c .settle .result .outcome) (going-few (t .before .loop .inv) (t .loop-test .taken) _ (got c))
+add-counts-2 c = let t = turn (c .before .before .before .before .before .before .before .before .before) in slot-fits (t .before .loop .inv) (c .settle .result .outcome) _ (going-few (t .before .loop .inv) (t .loop-test .taken) _ (got c)) (omega arith)
 
 cast-counts-2 : tie.Need-cast-counts-2 Inv-loop μ-loop
 cast-counts-2 c = search needs
