@@ -55,9 +55,11 @@ unfoldable pub reductionOf : ℕ → ℕ → ℤ
 reductionOf credit debit = subℕ credit debit
 
 -- "Reduction mg = baseline - CO2 - uncombusted - fuel over everything, signed (equation 1)"
+abbrev pub equation1 : ℕ → ℕ → ℕ → ℕ → ℤ
+equation1 baseline co2 uncombusted fuel = reductionOf baseline (co2 + uncombusted + fuel)
+
 unfoldable pub reductionAll : ℕ → (ℕ → ℕ) → (ℕ → ℕ) → ℕ → ℤ
-reductionAll devices kind q fuel =
-    reductionOf (baselineAll devices kind q) (carbonDioxideAll devices kind q + uncombustedAll devices kind q + fuel)
+reductionAll devices kind q fuel = equation1 (baselineAll devices kind q) (carbonDioxideAll devices kind q) (uncombustedAll devices kind q) fuel
 
 -- mg in a tonne
 abbrev pub tonne : ℕ

@@ -8,7 +8,7 @@ use lib.IntN.{pos}
 use lib.ListN.{length, getD}
 use Rattle.rows.specs.Rows.{FirstOf}
 use Rattle.protocol.specs.Kinds.{isKind, misplaced}
-use Rattle.protocol.specs.Ranges.{intervalsMost, devicesMost, flowRight, contentRight, tempRight, pressRight, statusRight, driftRight}
+use Rattle.protocol.specs.Ranges.{intervalsMost, devicesMost, checksMost, fuelsMost, flowRight, contentRight, tempRight, pressRight, statusRight, driftRight}
 use Rattle.checks.specs.Call.{Call}
 use Rattle.checks.specs.Steps.{Step}
 use Rattle.checks.specs.declared.Refusal.{Refusal}
@@ -55,7 +55,7 @@ pub record Accepted (c : Call) : Type 0 where
   pub mine-most : c .mine ≤ 1
   pub kind-right : (d : ℕ) → d < c .devices → isKind (getD (c .kinds) d 0) ≡ true
   pub kind-placed : (d : ℕ) → d < c .devices → misplaced (c .mine) (getD (c .kinds) d 0) ≡ false
-  pub count-most : (g : ℕ) → g < 2 * c .devices → getD (c .counts) g 0 ≤ 32
+  pub count-most : (g : ℕ) → g < 2 * c .devices → getD (c .counts) g 0 ≤ checksMost
   pub place-most : (g j : ℕ) → g < 2 * c .devices → j < getD (c .counts) g 0 → getD (c .places) (32 * g + j) 0 ≤ c .intervals
   pub drift-right : (g j : ℕ) → g < 2 * c .devices → j < getD (c .counts) g 0
       → driftRight (getD (c .drifts) (32 * g + j) (pos 0)) ≡ true
@@ -66,6 +66,6 @@ pub record Accepted (c : Call) : Type 0 where
   pub temp-right : (k : ℕ) → k < c .devices * c .intervals → tempRight (getD (c .temp) k (pos 0)) ≡ true
   pub press-right : (k : ℕ) → k < c .devices * c .intervals → pressRight (getD (c .press) k 0) ≡ true
   pub status-right : (k : ℕ) → k < c .devices * c .intervals → statusRight (getD (c .status) k 0) ≡ true
-  pub fuels-most : length (c .quantity) ≤ 64
+  pub fuels-most : length (c .quantity) ≤ fuelsMost
   pub quantity-most : (j : ℕ) → j < length (c .quantity) → getD (c .quantity) j 0 ≤ 1000000000
   pub factor-most : (j : ℕ) → j < length (c .quantity) → getD (c .factor) j 0 ≤ 4000000

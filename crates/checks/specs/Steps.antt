@@ -9,7 +9,7 @@ use lib.IntN.{ℤ, pos}
 use lib.ListN.{length, getD}
 use Rattle.rows.specs.Rows.{pick, both, either, first}
 use Rattle.protocol.specs.Kinds.{isKind, isMine, misplaced}
-use Rattle.protocol.specs.Ranges.{intervalsMost, devicesMost, fromOne, driftRight}
+use Rattle.protocol.specs.Ranges.{intervalsMost, devicesMost, checksMost, fuelsMost, fromOne, driftRight}
 use Rattle.readings.specs.Readings.{wrongReading}
 use Rattle.checks.specs.Call.{Call}
 use Rattle.checks.specs.declared.Refusal.{Refusal}
@@ -119,7 +119,7 @@ wrongCheck intervals places drifts g j =
 -- An instrument has 33 things to look at, "a wrong count before its entries": thing 0 is its count, "0 to 32"; thing j + 1 is
 -- check j, and "places past the count are ignored".
 unfoldable pub wrongThing : ℕ → List ℕ → List ℕ → List ℤ → ℕ → ℕ → Bool
-wrongThing intervals counts places drifts g zero = ltb 32 (getD counts g 0)
+wrongThing intervals counts places drifts g zero = ltb checksMost (getD counts g 0)
 wrongThing intervals counts places drifts g (suc j) = both (ltb j (getD counts g 0)) (wrongCheck intervals places drifts g j)
 
 -- the place of a thing where thing 0 is a count, whose place is `last`, and thing j + 1 is entry j
@@ -129,7 +129,7 @@ thingPlace last (suc j) = j
 
 -- "The place is .. the check .. entry .. (32 .. for a count)"
 abbrev pub checkPlace : ℕ → ℕ
-checkPlace t = thingPlace 32 t
+checkPlace t = thingPlace checksMost t
 
 unfoldable pub checksStep : Call → Step
 checksStep c =
@@ -151,12 +151,12 @@ readingsStep c =
 -- "9 | over 64 fuel lines, or a number outside its range": thing 0 is their count, thing j + 1 is line j, "quantity in
 -- thousandths of a unit 0..1,000,000,000 and factor in grams CO2 per unit 0..4,000,000"
 unfoldable pub wrongFuel : List ℕ → List ℕ → ℕ → Bool
-wrongFuel quantity factor zero = ltb 64 (length quantity)
+wrongFuel quantity factor zero = ltb fuelsMost (length quantity)
 wrongFuel quantity factor (suc j) = either (ltb 1000000000 (getD quantity j 0)) (ltb 4000000 (getD factor j 0))
 
 -- "The place is .. the .. fuel entry .. (.. 64 for a count)"
 abbrev pub fuelPlace : ℕ → ℕ
-fuelPlace t = thingPlace 64 t
+fuelPlace t = thingPlace fuelsMost t
 
 unfoldable pub fuelsStep : Call → Step
 fuelsStep c =

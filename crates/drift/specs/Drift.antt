@@ -9,7 +9,7 @@ use lib.Dec.{ltb, leb}
 use lib.IntN.{ℤ, pos, negsuc}
 use lib.ListN.{length, getD}
 use Rattle.rows.specs.Rows.{pick, both, either, every}
-use Rattle.protocol.specs.Ranges.{between, raised, missing, mark}
+use Rattle.protocol.specs.Ranges.{checksMost, between, raised, missing, mark}
 
 -- an instrument's checks: "0 to 32 checks in 32 places kept for each; places past the count are ignored"
 pub record Instrument : Type 0 where
@@ -68,9 +68,9 @@ correctedAt c reading i = keptOr (stretchDrift c i) reading i
 
 -- what is asked of an instrument's checks in a record of n intervals: in range and "Positions strictly increase"
 pub record Ordered (c : Instrument) (n : ℕ) : Type 0 where
-  pub few : c .count ≤ 32
-  pub places-kept : length (c .places) ≡ 32
-  pub drifts-kept : length (c .drifts) ≡ 32
+  pub few : c .count ≤ checksMost
+  pub places-kept : length (c .places) ≡ checksMost
+  pub drifts-kept : length (c .drifts) ≡ checksMost
   pub inside : (j : ℕ) → j < c .count → positionOf c j ≤ n
   pub rising : (j k : ℕ) → j < k → k < c .count → positionOf c j < positionOf c k
 

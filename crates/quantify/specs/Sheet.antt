@@ -7,7 +7,8 @@ use mathlib.Core.List.{List}
 use lib.ListN.{length, getD}
 use lib.IntN.{ℤ}
 use Rattle.checks.specs.Call.{Call}
-use Rattle.balance.specs.Balance.{fuelMg, reductionOf, tonnesOf, creditsOf}
+use Rattle.protocol.specs.Ranges.{fuelsMost}
+use Rattle.balance.specs.Balance.{fuelMg, equation1, tonnesOf, creditsOf}
 use Rattle.figures.specs.declared.Figures.{Figures}
 use Rattle.devices.specs.Devices.{Lent}
 use Rattle.devices.specs.Totals.{totalsOf}
@@ -36,7 +37,7 @@ fuelIn c = fuelMg (length (c .quantity)) (λ k. getD (c .quantity) k 0) (λ k. g
 -- the sheet's lines, in order, from the sums over devices and the fuel
 unfoldable pub figuresFrom : ℕ → ℕ → Totals → ℕ → Figures
 figuresFrom intervals devices t fuel =
-    let reduction : ℤ = reductionOf (t .«baseline_mg») (t .«co2_mg» + t .«uncombusted_mg» + fuel) in
+    let reduction : ℤ = equation1 (t .«baseline_mg») (t .«co2_mg») (t .«uncombusted_mg») fuel in
     record {
       intervals = intervals;
       devices = devices;
@@ -61,6 +62,6 @@ figuresOf c = figuresFrom (c .intervals) (c .devices) (totalsOf (lentIn c) (c .d
 -- what the fuel lines are within
 pub record Fuels (quantity factor : List ℕ) : Type 0 where
   pub same-length : length factor ≡ length quantity
-  pub few : length quantity ≤ 64
+  pub few : length quantity ≤ fuelsMost
   pub quantity-most : (j : ℕ) → j < length quantity → getD quantity j 0 ≤ 1000000000
   pub factor-most : (j : ℕ) → j < length quantity → getD factor j 0 ≤ 4000000
