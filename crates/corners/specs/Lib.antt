@@ -1,0 +1,5 @@
+pub mod Calls
+pub mod Figures
+pub mod Rows
+pub mod Refusals
+pub mod Gaps

@@ -1,0 +1,33 @@
+-- Calls that are refused, or just not.
+-- Assumes nothing.
+use Prim.Native.Nat.{ℕ}
+use mathlib.Core.Path.{_≡_, refl}
+use mathlib.Core.List.{List, [], _∷_, _++_}
+use lib.IntN.{pos}
+use lib.ListN.{replicate}
+use Rattle.readings.specs.Readings.{wrongReading}
+use Rattle.checks.specs.Call.{Call}
+use Rattle.checks.specs.Steps.{verdictOf, intervalsStep, devicesStep, lengthsOf, wantedOf, lengthsStep, mineStep, kindsStep, misplacedStep, wrongCheck, wrongThing, checksStep, readingsStep, wrongFuel, fuelsStep, judged}
+use Rattle.checks.specs.declared.Refusal.the-variants.{Lengths, Check, Fuel}
+use Rattle.checks.specs.declared.Verdict.the-variants.{Clean, Refused}
+use Rattle.corners.specs.Calls.{worked, injected, stopped, checked, counted, gapped}
+
+-- nothing is wrong with the calls that rows and figures are computed on, a check at N among them
+right : (judged worked ≡ Clean) × (judged injected ≡ Clean) × (judged (stopped (1 ∷ []) (1 ∷ [])) ≡ Clean) × (judged (gapped 16) ≡ Clean)
+    × (judged (checked 0 1 (pos 0) (pos 0)) ≡ Clean)
+unfolding judged verdictOf intervalsStep devicesStep lengthsOf wantedOf lengthsStep mineStep kindsStep misplacedStep wrongCheck wrongThing checksStep wrongReading readingsStep wrongFuel fuelsStep
+right = (refl, refl, refl, refl, refl)
+
+-- A check past N; two at one position; a wrong count before its wrong entry; a wrong flow entry before a wrong count of CH4.
+checks : (judged (checked 0 2 (pos 0) (pos 0)) ≡ Refused (Check 0 1)) × (judged (checked 1 1 (pos 0) (pos 0)) ≡ Refused (Check 0 1))
+    × (judged (counted (33 ∷ 0 ∷ []) (9 ∷ []) (pos 30000 ∷ [])) ≡ Refused (Check 0 32))
+    × (judged (counted (1 ∷ 33 ∷ []) (0 ∷ []) (pos 20001 ∷ [])) ≡ Refused (Check 0 0))
+unfolding judged verdictOf intervalsStep devicesStep lengthsOf wantedOf lengthsStep mineStep kindsStep misplacedStep wrongCheck wrongThing checksStep wrongReading readingsStep wrongFuel fuelsStep
+checks = (refl, refl, refl, refl)
+
+-- 65 quantities beside 64 factors are 3; 65 lines are 9 at 64; the last of 64 lines wrong is 9 at 63.
+fuels : (judged (stopped (replicate 65 0) (replicate 64 0)) ≡ Refused Lengths)
+    × (judged (stopped (replicate 65 0) (replicate 65 0)) ≡ Refused (Fuel 64))
+    × (judged (stopped (replicate 63 0 ++ (1000000001 ∷ [])) (replicate 64 0)) ≡ Refused (Fuel 63))
+unfolding judged verdictOf intervalsStep devicesStep lengthsOf wantedOf lengthsStep mineStep kindsStep misplacedStep wrongCheck wrongThing checksStep wrongReading readingsStep wrongFuel fuelsStep
+fuels = (refl, refl, refl)

@@ -1,0 +1,1 @@
+// No code: the definitions computed at their corners (specs/).
