@@ -7,10 +7,20 @@ use lib.IntN.{pos}
 use lib.ListN.{replicate}
 use Rattle.readings.specs.Readings.{wrongReading}
 use Rattle.checks.specs.Call.{Call}
-use Rattle.checks.specs.Steps.{verdictOf, intervalsStep, devicesStep, lengthsOf, wantedOf, lengthsStep, mineStep, kindsStep, misplacedStep, wrongCheck, wrongThing, checksStep, readingsStep, wrongFuel, fuelsStep, judged}
-use Rattle.checks.specs.declared.Refusal.the-variants.{Lengths, Check, Fuel}
+use Rattle.checks.specs.Steps.{numberOf, verdictOf, intervalsStep, devicesStep, lengthsOf, wantedOf, lengthsStep, mineStep, kindsStep, misplacedStep, wrongCheck, wrongThing, checksStep, readingsStep, wrongFuel, fuelsStep, judged}
+use Rattle.checks.specs.declared.Refusal.the-variants.{Intervals, Devices, Lengths, Mine, Kind, Misplaced, Check, Reading, Fuel}
 use Rattle.checks.specs.declared.Verdict.the-variants.{Clean, Refused}
 use Rattle.corners.specs.Calls.{worked, injected, stopped, checked, counted, gapped}
+
+-- document 01's numbers
+numbers : List ℕ
+numbers =
+    numberOf Intervals ∷ numberOf Devices ∷ numberOf Lengths ∷ numberOf Mine ∷ numberOf (Kind 1) ∷ numberOf (Misplaced 1) ∷ numberOf (Check 1 2) ∷ numberOf (Reading 1 2)
+    ∷ numberOf (Fuel 2) ∷ []
+
+one-to-nine : numbers ≡ 1 ∷ 2 ∷ 3 ∷ 4 ∷ 5 ∷ 6 ∷ 7 ∷ 8 ∷ 9 ∷ []
+unfolding numbers
+one-to-nine = refl
 
 -- nothing is wrong with the calls that rows and figures are computed on, a check at N among them
 right : (judged worked ≡ Clean) × (judged injected ≡ Clean) × (judged (stopped (1 ∷ []) (1 ∷ [])) ≡ Clean) × (judged (gapped 16) ≡ Clean)

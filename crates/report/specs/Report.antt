@@ -118,7 +118,11 @@ pub record Reported (t : List ℕ) (before after : Lent) (old new : List ℕ) (n
       (answerTo h rows (before .results))
   pub whatever : (other : Lent) → AsLong other before → Whatever t other (outputOf answer rows before)
 
--- a line that is wrong, as it is printed
+-- a line that is wrong, and a record that is too large, as they are printed
 twelve : refused (ReadAnswer.Line 3) ≡ bytes "refusal=12\ndevice=0\nplace=3\n"
 unfolding refusalText dec
 twelve = refl
+
+thirteen : refused ReadAnswer.Room ≡ bytes "refusal=13\ndevice=0\nplace=0\n"
+unfolding refusalText dec
+thirteen = refl
