@@ -1,4 +1,4 @@
-/* cmm.h: destroyed coal-mine methane quantified by Quebec Protocol 4, as C functions. C99, x86-64 Linux, no C library needed.
+/* cmm.h: destroyed coal-mine methane quantified by Quebec Protocol 4, as C functions. C99, x86-64 Linux, no C library needed but memset.
  *
  * Link target/staticlib/liblibrary.a, which `rt staticlib library` makes (host/build does it, and builds a program with it).
  * What each function does is proved for every call that keeps to what is asked of the host: crates/library/src/lib.rt has the
@@ -12,7 +12,7 @@
  * That is all. Any numbers, any bytes and any lengths have an answer; a wrong length is refused, never read or written past.
  *
  * What the host gets
- * - No function allocates, does input or output, keeps anything between two calls, or calls anything outside the archive.
+ * - No function allocates, does input or output, keeps anything between two calls, or calls anything outside the archive but memset.
  *   Two threads may call at the same time, with arrays of their own. Every call ends.
  * - Each writes what is said of it below and no other byte. 11 KB of stack were measured for cmm_report,
  *   whatever the lengths.
@@ -163,8 +163,8 @@ uint64_t cmm_read_record(
  * A text that begins with `refusal=` is a refusal.
  *
  * The rows are room to work in, and what stood in them does not matter. They may have any lengths: the shortest of the first five
- * says how many entries, N times D, a record may have (13), and result rows shorter than that are refused with 3. Afterwards the
- * first N times D entries hold what cmm_read_record and cmm_quantify leave; entries past them are unchanged. */
+ * says how many entries, N times D, a record may have (13), and a result row shorter than the record's own N times D is refused
+ * with 3. Afterwards the first N times D entries hold what cmm_read_record and cmm_quantify leave; entries past them are unchanged. */
 size_t cmm_report(
     const uint8_t *t, size_t t_length,
     uint16_t *flow, size_t flow_length,

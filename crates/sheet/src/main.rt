@@ -2,7 +2,7 @@
 use libc::STDIN_FILENO;
 use libc::STDOUT_FILENO;
 
-// Longer than any record file that 2,976 entries can hold, so that its first bytes decide every longer input (report/proofs/Cut.antt).
+// Longer than any record file that 2,976 entries can hold, so that its first bytes decide every longer input (`report-cut`, report/proofs/Settled.antt).
 const TEXT: usize = 217600;
 
 const ENTRIES: usize = 2976;
