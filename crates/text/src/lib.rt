@@ -10,7 +10,7 @@ ghost use lib.IntN.{pos, negsuc};
 ghost use lib.Signed.{nonNeg};
 ghost use Rattle.text.specs.Decimal.{dec, decimal, number, plain, signed};
 ghost use Rattle.text.specs.Line.{lineOf, line};
-ghost use Rattle.text.specs.Answer.{Put, NaturalIn, WholeIn, wrongAt, wholeWrongAt, Matched, SameKey, wordAt, Asked, AskedSigned};
+ghost use Rattle.text.specs.Answer.{Put, NaturalIn, WholeIn, wrongAt, wholeWrongAt, Matched, SameKey, wordAt, NoDigit, Asked, AskedSigned};
 
 // An unsigned number and the place after it, or the place of the first byte that cannot stand there.
 pub enum Natural {
@@ -213,6 +213,13 @@ fn word(t: &[u8], p: usize) -> u64
     t[p] as u64 + 256 * t[p + 1] as u64 + 65536 * t[p + 2] as u64 + 16777216 * t[p + 3] as u64
 }
 
+// Whether b is no digit's byte. Rules out: 47 or 58 taken for a digit; 48 or 57 for none.
+fn no_digit(b: u8) -> bool
+    ensures { λ r. ⌜ NoDigit b r ⌝ }
+{
+    b < 48 || b > 57
+}
+
 // Whether 10 v + d, which may be too large for 64 bits, is above `most`. Rules out: the border itself; a sum that wraps.
 fn exceeds(v: u64, d: u64, most: u64) -> bool
     ensures { λ r. ⌜ r ≡ ltb most (10 * v + d) ⌝ }
@@ -233,10 +240,7 @@ pub fn read_natural(t: &[u8], start: usize, least: u64, most: u64, end: u8) -> N
         return Natural::Wrong(start);
     }
     let first = t[start];
-    if first < 48 {
-        return Natural::Wrong(start);
-    }
-    if first > 57 {
+    if no_digit(first) {
         return Natural::Wrong(start);
     }
     let mut v = (first - 48) as u64;
@@ -258,22 +262,20 @@ pub fn read_natural(t: &[u8], start: usize, least: u64, most: u64, end: u8) -> N
     // Below this a digit more stays within `most`, so that only a number near it is looked at closely.
     let safe = most / 10;
     while i < t.len() {
-        let b = t[i] as u64;
-        if b < 48 {
-            if t[i] == end {
+        let b = t[i];
+        if no_digit(b) {
+            if b == end {
                 return Natural::Value(v, i + 1);
             }
             return Natural::Wrong(i);
         }
-        if b > 57 {
-            return Natural::Wrong(i);
-        }
+        let d = (b - 48) as u64;
         if v >= safe {
-            if exceeds(v, b - 48, most) {
+            if exceeds(v, d, most) {
                 return Natural::Wrong(i);
             }
         }
-        v = 10 * v + (b - 48);
+        v = 10 * v + d;
         i += 1;
     }
     Natural::Wrong(i)

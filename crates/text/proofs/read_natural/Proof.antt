@@ -43,29 +43,32 @@ returns c =
 shared-slice-read-first : tie.Need-shared-slice-read-first Inv-loop μ-loop
 shared-slice-read-first c = omega arith
 
+no-digit-requires : tie.Need-no-digit-requires Inv-loop μ-loop
+no-digit-requires c κs = tt
+
 returns-2 : tie.Need-returns-2 Inv-loop μ-loop
 returns-2 c =
-    let a = c .before .before .before .before .args in
-    broken-first (now (a .t)) (a .start) (a .least) (a .most) (a .end) (c .before .before .before .before .pre .range) (c .before .before .before .before .pre .low) (c .before .before .before .before .pre .within)
-    (λ inside g. absurd (omega (arith, g .low)))
+    let a = c .before .before .before .before .before .args in
+    broken-first (now (a .t)) (a .start) (a .least) (a .most) (a .end) (c .before .before .before .before .before .pre .range) (c .before .before .before .before .before .pre .low) (c .before .before .before .before .before .pre .within)
+    (λ inside g. absurd (c .before .no-digit .ensures .other (c .if2 .taken) (g .low) (g .high)))
+
+first-is : (c : tie.Else2 Inv-loop μ-loop) → Digit (getD (now (c .before .before .before .before .before .args .t)) (c .before .before .before .before .before .args .start) 0)
+first-is c = record { low = c .before .no-digit .ensures .low (c .if2 .left); high = c .before .no-digit .ensures .high (c .if2 .left) }
+
+sub-v : tie.Need-sub-v Inv-loop μ-loop
+sub-v c = first-is c .low
+
+cast-v : tie.Need-cast-v Inv-loop μ-loop
+cast-v c = omega (arith, first-is c .high)
 
 returns-3 : tie.Need-returns-3 Inv-loop μ-loop
 returns-3 c =
-    let a = c .before .before .before .before .before .args in
-    broken-first (now (a .t)) (a .start) (a .least) (a .most) (a .end) (c .before .before .before .before .before .pre .range) (c .before .before .before .before .before .pre .low) (c .before .before .before .before .before .pre .within)
-    (λ inside g. absurd (omega (arith, g .high)))
-
-cast-v : tie.Need-cast-v Inv-loop μ-loop
-cast-v c = omega arith
-
-returns-4 : tie.Need-returns-4 Inv-loop μ-loop
-returns-4 c =
     let a = c .before .before .before .before .before .before .args in
     broken-first (now (a .t)) (a .start) (a .least) (a .most) (a .end) (c .before .before .before .before .before .before .pre .range) (c .before .before .before .before .before .before .pre .low) (c .before .before .before .before .before .before .pre .within)
     (λ inside g. inl (omega arith))
 
-returns-5 : tie.Need-returns-5 Inv-loop μ-loop
-returns-5 c =
+returns-4 : tie.Need-returns-4 Inv-loop μ-loop
+returns-4 c =
     let a = c .before .before .before .before .before .before .before .args in
     broken-first (now (a .t)) (a .start) (a .least) (a .most) (a .end) (c .before .before .before .before .before .before .before .pre .range) (c .before .before .before .before .before .before .before .pre .low) (c .before .before .before .before .before .before .before .pre .within)
     (λ inside g. inr (omega arith))
@@ -73,32 +76,32 @@ returns-5 c =
 add-i : tie.Need-add-i Inv-loop μ-loop
 add-i c = omega arith
 
-shared-slice-read-if8 : tie.Need-shared-slice-read-if8 Inv-loop μ-loop
-shared-slice-read-if8 c = omega arith
-
-add-t20 : tie.Need-add-t20 Inv-loop μ-loop
-add-t20 c = omega arith
+shared-slice-read-if7 : tie.Need-shared-slice-read-if7 Inv-loop μ-loop
+shared-slice-read-if7 c = omega arith
 
 -- The digit 0 alone.
-zero : (c : tie.Then6 Inv-loop μ-loop) → Stands (now (c .before .before .before .before .before .before .before .before .args .t)) (c .before .before .before .before .before .before .before .before .args .start) (c .before .before .before .before .before .before .before .before .args .start + 1) (dec 0)
-zero c = let a = c .before .before .before .before .before .before .before .before .args in first-digit (now (a .t)) (a .start) 0 (omega arith) (omega arith) (omega arith)
+zero : (c : tie.Then5 Inv-loop μ-loop) → Stands (now (c .before .before .before .before .before .before .before .before .args .t)) (c .before .before .before .before .before .before .before .before .args .start) (c .before .before .before .before .before .before .before .before .args .start + 1) (dec 0)
+zero c = let a = c .before .before .before .before .before .before .before .before .args in first-digit (now (a .t)) (a .start) 0 (omega arith) (omega arith) (omega (arith, first-is (c .before .before .before) .low))
+
+add-t22 : tie.Need-add-t22 Inv-loop μ-loop
+add-t22 c = omega arith
+
+returns-5 : tie.Need-returns-5 Inv-loop μ-loop
+returns-5 c =
+    let a = c .before .before .before .before .before .before .before .before .before .before .before .args in
+    record {
+      taken = (omega arith, omega arith);
+      stands = number-ends (now (a .t)) (a .start) (a .start + 1) (a .end) (dec 0) (omega arith) (c .if7 .taken) (zero (c .before .before .before));
+    }
 
 returns-6 : tie.Need-returns-6 Inv-loop μ-loop
 returns-6 c =
     let a = c .before .before .before .before .before .before .before .before .before .before .before .args in
-    record {
-      taken = (omega arith, omega arith);
-      stands = number-ends (now (a .t)) (a .start) (a .start + 1) (a .end) (dec 0) (omega arith) (c .if8 .taken) (zero (c .before .before .before));
-    }
+    broken-later (now (a .t)) (a .start) (a .start + 1) 0 (a .least) (a .most) (a .end) (c .before .before .before .before .before .before .before .before .before .before .before .pre .stop) (omega arith) (omega arith) (zero (c .before .before .before))
+    (λ inside e. c .if7 .left e) (λ inside g h. omega arith)
 
 returns-7 : tie.Need-returns-7 Inv-loop μ-loop
 returns-7 c =
-    let a = c .before .before .before .before .before .before .before .before .before .before .before .args in
-    broken-later (now (a .t)) (a .start) (a .start + 1) 0 (a .least) (a .most) (a .end) (c .before .before .before .before .before .before .before .before .before .before .before .pre .stop) (omega arith) (omega arith) (zero (c .before .before .before))
-    (λ inside e. c .if8 .left e) (λ inside g h. omega arith)
-
-returns-8 : tie.Need-returns-8 Inv-loop μ-loop
-returns-8 c =
     let a = c .before .before .before .before .before .before .before .before .before .args in
     broken-later (now (a .t)) (a .start) (a .start + 1) 0 (a .least) (a .most) (a .end) (c .before .before .before .before .before .before .before .before .before .pre .stop) (omega arith) (omega arith) (zero (c .before))
     (λ inside e. omega arith) (λ inside g h. omega arith)
@@ -111,47 +114,50 @@ loop-holds c =
       some = omega arith;
       low = omega arith;
       high = omega arith;
-      stands = first-digit (now (a .t)) (a .start) (getD (now (a .t)) (a .start) 0 - 48) (omega arith) (omega arith) (omega arith);
+      stands = first-digit (now (a .t)) (a .start) (getD (now (a .t)) (a .start) 0 - 48) (omega arith) (omega (arith, first-is (c .before .before .before) .high)) (omega (arith, first-is (c .before .before .before) .low));
     }
 
 shared-slice-read-b : tie.Need-shared-slice-read-b Inv-loop μ-loop
 shared-slice-read-b c = omega arith
 
-cast-b : tie.Need-cast-b Inv-loop μ-loop
-cast-b c = omega (arith, c .shared-slice-known4 .given (c .before .before .loop .i))
+no-digit-requires-2 : tie.Need-no-digit-requires-2 Inv-loop μ-loop
+no-digit-requires-2 c κs = tt
 
-shared-slice-read-if10 : tie.Need-shared-slice-read-if10 Inv-loop μ-loop
-shared-slice-read-if10 c = omega arith
+add-t29 : tie.Need-add-t29 Inv-loop μ-loop
+add-t29 c = omega arith
 
-add-t28 : tie.Need-add-t28 Inv-loop μ-loop
-add-t28 c = omega arith
-
-returns-9 : tie.Need-returns-9 Inv-loop μ-loop
-returns-9 c =
+returns-8 : tie.Need-returns-8 Inv-loop μ-loop
+returns-8 c =
     let a = c .before .before .before .before .before .before .before .before .before .before .before .before .before .before .args in
     let l = c .before .before .before .before .before .loop in
     record {
       taken = (l .inv .low, l .inv .high);
-      stands = number-ends (now (a .t)) (a .start) (l .i) (a .end) (dec (l .v)) (omega arith) (c .if10 .taken) (l .inv .stands);
+      stands = number-ends (now (a .t)) (a .start) (l .i) (a .end) (dec (l .v)) (omega arith) (c .if9 .taken) (l .inv .stands);
     }
 
-returns-10 : tie.Need-returns-10 Inv-loop μ-loop
-returns-10 c = breaks (c .before .before .before .before .before .loop .inv) (λ inside e. c .if10 .left e) (λ inside g. omega (arith, g .low, c .before .before .if9 .taken))
+returns-9 : tie.Need-returns-9 Inv-loop μ-loop
+returns-9 c = breaks (c .before .before .before .before .before .loop .inv) (λ inside e. c .if9 .left e) (λ inside g. absurd (c .before .before .no-digit2 .ensures .other (c .before .if8 .taken) (g .low) (g .high)))
 
-returns-11 : tie.Need-returns-11 Inv-loop μ-loop
-returns-11 c = breaks (c .before .before .before .before .loop .inv) (λ inside e. omega (arith, c .before .before .before .before .loop .inv .asked .stop, c .if11 .taken)) (λ inside g. omega (arith, g .high, c .if11 .taken))
+next-is : (c : tie.Else8 Inv-loop μ-loop) → Digit (getD (now (c .before .before .before .before .before .before .before .before .before .before .before .before .before .args .t)) (c .before .before .before .before .loop .i) 0)
+next-is c = record { low = c .before .no-digit2 .ensures .low (c .if8 .left); high = c .before .no-digit2 .ensures .high (c .if8 .left) }
+
+sub-d : tie.Need-sub-d Inv-loop μ-loop
+sub-d c = next-is c .low
+
+cast-d : tie.Need-cast-d Inv-loop μ-loop
+cast-d c = omega (arith, next-is c .high)
 
 exceeds-requires : tie.Need-exceeds-requires Inv-loop μ-loop
 exceeds-requires c κs = tt
 
-returns-12 : tie.Need-returns-12 Inv-loop μ-loop
-returns-12 c =
-    breaks (c .before .before .before .before .before .before .before .loop .inv) (λ inside e. omega (arith, c .before .before .before .before .before .before .before .loop .inv .asked .stop, c .before .before .before .before .if9 .left))
-    (λ inside g. let over = sym (c .before .exceeds .ensures) ∙ c .if13 .taken in omega (arith, ltb-true))
+returns-10 : tie.Need-returns-10 Inv-loop μ-loop
+returns-10 c =
+    breaks (c .before .before .before .before .before .before .before .loop .inv) (λ inside e. omega (arith, c .before .before .before .before .before .before .before .loop .inv .asked .stop, next-is (c .before .before .before) .low))
+    (λ inside g. let over = sym (c .before .exceeds .ensures) ∙ c .if11 .taken in omega (arith, ltb-true))
 
 -- Where v is below `safe` a digit more is within the range, and else `exceeds` has said so.
-within : (c : tie.Joined12 Inv-loop μ-loop) → 10 * c .before .before .before .before .before .loop .v + (getD (now (c .before .before .before .before .before .before .before .before .before .before .before .before .before .before .args .t)) (c .before .before .before .before .before .loop .i) 0 - 48) ≤ c .before .before .before .before .before .before .before .before .before .before .before .before .before .before .args .most
-within c = ⊎-elim (λ w. let under = sym (w .1 .ensures) ∙ w .2 .left in omega (arith, ltb-false)) (λ w. omega arith) (c .if12 .came)
+within : (c : tie.Joined10 Inv-loop μ-loop) → 10 * c .before .before .before .before .before .loop .v + (getD (now (c .before .before .before .before .before .before .before .before .before .before .before .before .before .before .args .t)) (c .before .before .before .before .before .loop .i) 0 - 48) ≤ c .before .before .before .before .before .before .before .before .before .before .before .before .before .before .args .most
+within c = ⊎-elim (λ w. let under = sym (w .1 .ensures) ∙ w .2 .left in omega (arith, ltb-false)) (λ w. omega (arith, next-is (c .before) .high)) (c .if10 .came)
 
 mul-v : tie.Need-mul-v Inv-loop μ-loop
 mul-v c = omega (arith, within c)
@@ -174,11 +180,11 @@ loop-again c =
       some = omega (arith, l .inv .some);
       low = omega (arith, l .inv .low);
       high = within c;
-      stands = next-digit (now (a .t)) (a .start) (l .i) (l .v) (getD (now (a .t)) (l .i) 0 - 48) (omega arith) (l .inv .some) (omega arith) (omega arith) (l .inv .stands);
+      stands = next-digit (now (a .t)) (a .start) (l .i) (l .v) (getD (now (a .t)) (l .i) 0 - 48) (omega arith) (l .inv .some) (omega (arith, next-is (c .before) .high)) (omega (arith, next-is (c .before) .low)) (l .inv .stands);
     }
 
-returns-13 : tie.Need-returns-13 Inv-loop μ-loop
-returns-13 c = breaks (c .before .loop .inv) (λ inside e. omega arith) (λ inside g. omega arith)
+returns-11 : tie.Need-returns-11 Inv-loop μ-loop
+returns-11 c = breaks (c .before .loop .inv) (λ inside e. omega arith) (λ inside g. omega arith)
 
 pub read-natural-spec : {M : Type 1} → statement M
 read-natural-spec =
@@ -188,30 +194,31 @@ read-natural-spec =
     μ-loop
     returns
     shared-slice-read-first
+    no-digit-requires
     returns-2
-    returns-3
+    sub-v
     cast-v
+    returns-3
     returns-4
-    returns-5
     add-i
-    shared-slice-read-if8
-    add-t20
+    shared-slice-read-if7
+    add-t22
+    returns-5
     returns-6
     returns-7
-    returns-8
     loop-holds
     shared-slice-read-b
-    cast-b
-    shared-slice-read-if10
-    add-t28
+    no-digit-requires-2
+    add-t29
+    returns-8
     returns-9
-    returns-10
-    returns-11
+    sub-d
+    cast-d
     exceeds-requires
-    returns-12
+    returns-10
     mul-v
     add-v
     add-i-2
     loop-less
     loop-again
-    returns-13)
+    returns-11)
