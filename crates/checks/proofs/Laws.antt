@@ -4,7 +4,7 @@ use Prim.Native.Nat.{ℕ, zero, suc, _+_, _-_, _*_, _≤_, _<_}
 use mathlib.Core.Path.{_≡_, refl, sym, ap, ap₂, _∙_, subst}
 use mathlib.Core.Bool.{Bool, true, false, not}
 use mathlib.Core.Logic.{⊎-elim}
-use native.Mathlib.Nat.{not-suc-le-zero, le-of-suc-le-suc, eq-or-lt-of-le, mul-add-div, div-eq-of-lt, mul-add-mod-self-left, mod-eq-of-lt, mul-le-mul}
+use native.Mathlib.Nat.{not-suc-le-zero, le-of-suc-le-suc, eq-or-lt-of-le, mul-add-div, div-eq-of-lt, mul-add-mod-self-left, mod-eq-of-lt}
 use native.Mathlib.Omega.{arith}
 use lib.Dec.{eqb, ltb, leb}
 use lib.IntN.{pos}
@@ -15,18 +15,15 @@ use Rattle.rows.proofs.Laws.{both-true}
 use Rattle.protocol.specs.Kinds.{isKind, misplaced}
 use Rattle.protocol.specs.Ranges.{flowRight, contentRight, tempRight, pressRight, statusRight, driftRight}
 use Rattle.readings.specs.Readings.{wrongReading}
+use Rattle.scans.specs.Wrong.{wrongCheck, wrongThing, wrongFuel}
 use Rattle.checks.specs.Call.{Call}
-use Rattle.checks.specs.Steps.{intervalsStep, devicesStep, lengthsOf, wantedOf, lengthsStep, mineStep, kindsStep, misplacedStep, wrongCheck, wrongThing, checksStep, readingsStep, wrongFuel, fuelsStep, verdictOf, valueSteps, stepsOf, judged}
+use Rattle.checks.specs.Steps.{intervalsStep, devicesStep, lengthsOf, wantedOf, lengthsStep, mineStep, kindsStep, misplacedStep, checksStep, readingsStep, fuelsStep, verdictOf, valueSteps, stepsOf, judged}
 use Rattle.checks.specs.Accepted.{Clear, AllClear, Refuses, Shaped, Accepted}
 use Rattle.checks.specs.declared.Refusal.{Refusal}
 use Rattle.checks.specs.declared.Verdict.the-variants.{Clean, Refused}
 use Rattle.checks.proofs.Verdicts.{clean-clear, clear-clean, refused-first, first-refused, Among, clear-of}
 
 -- ---- bounds
-
--- 16 devices of 35,136 intervals
-pub cells-fit : (d n : ℕ) → d ≤ 16 → n ≤ 35136 → d * n ≤ 562176
-cells-fit d n h l = let z : d * n ≤ 16 * 35136 = mul-le-mul h l in omega arith
 
 module _ (x most : ℕ) (e : both (leb 1 x) (leb x most) ≡ true) where
   pub within-least : 1 ≤ x

@@ -1,4 +1,3 @@
-pub mod Tests
 pub mod Verdicts
 pub mod Laws
 pub mod Parts

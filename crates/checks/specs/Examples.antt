@@ -6,8 +6,9 @@ use mathlib.Core.List.{List, [], _∷_, _++_}
 use lib.IntN.{negsuc}
 use Rattle.rows.specs.Rows.{build}
 use Rattle.readings.specs.Readings.{wrongReading}
+use Rattle.scans.specs.Wrong.{wrongCheck, wrongThing, wrongFuel}
 use Rattle.checks.specs.Call.{Call}
-use Rattle.checks.specs.Steps.{numberOf, verdictOf, intervalsStep, devicesStep, lengthsOf, wantedOf, lengthsStep, mineStep, kindsStep, misplacedStep, wrongCheck, wrongThing, checksStep, readingsStep, wrongFuel, fuelsStep, judged}
+use Rattle.checks.specs.Steps.{numberOf, verdictOf, intervalsStep, devicesStep, lengthsOf, wantedOf, lengthsStep, mineStep, kindsStep, misplacedStep, checksStep, readingsStep, fuelsStep, judged}
 use Rattle.checks.specs.declared.Refusal.the-variants.{Lengths, Kind, Misplaced, Check, Reading, Fuel}
 use Rattle.checks.specs.declared.Verdict.the-variants.{Clean, Refused}
 

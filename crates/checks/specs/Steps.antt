@@ -1,16 +1,16 @@
 -- "Refusal numbers, in order of test": one ordered list of checks. The order, the conditions and the places are read off it,
 -- and a later number is one entry more. Only 1 to 9 belong to quantification.
 -- Assumes nothing.
-use Prim.Native.Nat.{ℕ, zero, suc, _+_, _-_, _*_, _/_, _%_}
+use Prim.Native.Nat.{ℕ, _+_, _*_, _/_, _%_}
 use mathlib.Core.Bool.{Bool, not}
 use mathlib.Core.List.{List, [], _∷_}
-use lib.Dec.{eqb, ltb, leb}
-use lib.IntN.{ℤ, pos}
+use lib.Dec.{eqb, ltb}
 use lib.ListN.{length, getD}
-use Rattle.rows.specs.Rows.{pick, both, either, first}
+use Rattle.rows.specs.Rows.{pick, first}
 use Rattle.protocol.specs.Kinds.{isKind, isMine, misplaced}
-use Rattle.protocol.specs.Ranges.{intervalsMost, devicesMost, checksMost, fuelsMost, fromOne, driftRight}
+use Rattle.protocol.specs.Ranges.{intervalsMost, devicesMost, checksMost, fuelsMost, fromOne}
 use Rattle.readings.specs.Readings.{wrongReading}
+use Rattle.scans.specs.Wrong.{wantedFor, wrongThing, wrongFuel, thingPlace}
 use Rattle.checks.specs.Call.{Call}
 use Rattle.checks.specs.declared.Refusal.{Refusal}
 use Rattle.checks.specs.declared.Refusal.the-variants.{Intervals, Devices, Lengths, Mine, Kind, Misplaced, Check, Reading, Fuel}
@@ -83,11 +83,7 @@ lengthsOf c =
     ∷ length (c .flow) ∷ length (c .content) ∷ length (c .temp) ∷ length (c .press) ∷ length (c .status)
     ∷ c .outcome-length ∷ c .flow-row-length ∷ c .content-row-length ∷ length (c .factor) ∷ []
 
--- and what D, N and the number of quantities ask them to be
-abbrev pub wantedFor : ℕ → ℕ → ℕ → List ℕ
-wantedFor d n fuels =
-    d ∷ 2 * d ∷ 64 * d ∷ 64 * d ∷ d * n ∷ d * n ∷ d * n ∷ d * n ∷ d * n ∷ d * n ∷ d * n ∷ d * n ∷ fuels ∷ []
-
+-- and what they are to be
 unfoldable pub wantedOf : Call → List ℕ
 wantedOf c = wantedFor (c .devices) (c .intervals) (length (c .quantity))
 
@@ -107,26 +103,7 @@ kindsStep c = record { size = c .devices; bad = λ d. not (isKind (getD (c .kind
 unfoldable pub misplacedStep : Call → Step
 misplacedStep c = record { size = c .devices; bad = λ d. misplaced (c .mine) (getD (c .kinds) d 0); refusal = λ d. Misplaced d }
 
--- "7 | a check count, position or drift is wrong". Instrument g of all, flow before CH4 and device 0 first, has its 32 places
--- from 32 g on. Check j of it: "a position 0..N", "a drift in 0.01 %, -9,000..20,000", "Positions strictly increase", and "of
--- two positions that don't increase the later" offends.
-unfoldable pub wrongCheck : ℕ → List ℕ → List ℤ → ℕ → ℕ → Bool
-wrongCheck intervals places drifts g j =
-    either (ltb intervals (getD places (32 * g + j) 0))
-    (either (not (driftRight (getD drifts (32 * g + j) (pos 0))))
-    (both (ltb 0 j) (leb (getD places (32 * g + j) 0) (getD places (32 * g + (j - 1)) 0))))
-
--- An instrument has 33 things to look at, "a wrong count before its entries": thing 0 is its count, "0 to 32"; thing j + 1 is
--- check j, and "places past the count are ignored".
-unfoldable pub wrongThing : ℕ → List ℕ → List ℕ → List ℤ → ℕ → ℕ → Bool
-wrongThing intervals counts places drifts g zero = ltb checksMost (getD counts g 0)
-wrongThing intervals counts places drifts g (suc j) = both (ltb j (getD counts g 0)) (wrongCheck intervals places drifts g j)
-
--- the place of a thing where thing 0 is a count, whose place is `last`, and thing j + 1 is entry j
-abbrev pub thingPlace : ℕ → ℕ → ℕ
-thingPlace last zero = last
-thingPlace last (suc j) = j
-
+-- "7 | a check count, position or drift is wrong": an instrument has 33 things to look at, its count first.
 -- "The place is .. the check .. entry .. (32 .. for a count)"
 abbrev pub checkPlace : ℕ → ℕ
 checkPlace t = thingPlace checksMost t
@@ -148,13 +125,7 @@ readingsStep c =
       refusal = λ k. Reading (k / c .intervals) (k % c .intervals);
     }
 
--- "9 | over 64 fuel lines, or a number outside its range": thing 0 is their count, thing j + 1 is line j, "quantity in
--- thousandths of a unit 0..1,000,000,000 and factor in grams CO2 per unit 0..4,000,000"
-unfoldable pub wrongFuel : List ℕ → List ℕ → ℕ → Bool
-wrongFuel quantity factor zero = ltb fuelsMost (length quantity)
-wrongFuel quantity factor (suc j) = either (ltb 1000000000 (getD quantity j 0)) (ltb 4000000 (getD factor j 0))
-
--- "The place is .. the .. fuel entry .. (.. 64 for a count)"
+-- "9 | over 64 fuel lines, or a number outside its range". "The place is .. the .. fuel entry .. (.. 64 for a count)"
 abbrev pub fuelPlace : ℕ → ℕ
 fuelPlace t = thingPlace fuelsMost t
 

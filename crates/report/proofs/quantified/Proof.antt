@@ -1,6 +1,6 @@
 use Rattle.report.proofs.Laws.{part-long}
 use Rattle.report.proofs.Laws.{lesser-first, quantified-is}
-use Rattle.checks.proofs.Laws.{cells-fit}
+use Rattle.scans.proofs.Tests.{cells-fit}
 use lib.Seq.{length-take-le}
 use lib.ListN.{length, length-append}
 use native.Mathlib.Omega.{arith}

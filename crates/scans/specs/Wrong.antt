@@ -1,0 +1,42 @@
+-- What is wrong with a call's lengths, checks and fuel lines, thing by thing. Kinds are in crates/protocol, readings in crates/readings.
+-- Assumes nothing.
+use Prim.Native.Nat.{ℕ, zero, suc, _+_, _-_, _*_}
+use mathlib.Core.Bool.{Bool, not}
+use mathlib.Core.List.{List, [], _∷_}
+use lib.Dec.{ltb, leb}
+use lib.IntN.{ℤ, pos}
+use lib.ListN.{length, getD}
+use Rattle.rows.specs.Rows.{both, either}
+use Rattle.protocol.specs.Ranges.{checksMost, fuelsMost, driftRight}
+
+-- "3 | a lent slice, result rows included, isn't exactly as long as N and D ask, or the fuel slices differ": the lengths that D, N and the number of
+-- quantities ask, in the order of the parameters
+abbrev pub wantedFor : ℕ → ℕ → ℕ → List ℕ
+wantedFor d n fuels =
+    d ∷ 2 * d ∷ 64 * d ∷ 64 * d ∷ d * n ∷ d * n ∷ d * n ∷ d * n ∷ d * n ∷ d * n ∷ d * n ∷ d * n ∷ fuels ∷ []
+
+-- "7 | a check count, position or drift is wrong". Instrument g of all, flow before CH4 and device 0 first, has its 32 places
+-- from 32 g on. Check j of it: "a position 0..N", "a drift in 0.01 %, -9,000..20,000", "Positions strictly increase", and "of
+-- two positions that don't increase the later" offends.
+unfoldable pub wrongCheck : ℕ → List ℕ → List ℤ → ℕ → ℕ → Bool
+wrongCheck intervals places drifts g j =
+    either (ltb intervals (getD places (32 * g + j) 0))
+    (either (not (driftRight (getD drifts (32 * g + j) (pos 0))))
+    (both (ltb 0 j) (leb (getD places (32 * g + j) 0) (getD places (32 * g + (j - 1)) 0))))
+
+-- An instrument has 33 things to look at, "a wrong count before its entries": thing 0 is its count, "0 to 32"; thing j + 1 is
+-- check j, and "places past the count are ignored".
+unfoldable pub wrongThing : ℕ → List ℕ → List ℕ → List ℤ → ℕ → ℕ → Bool
+wrongThing intervals counts places drifts g zero = ltb checksMost (getD counts g 0)
+wrongThing intervals counts places drifts g (suc j) = both (ltb j (getD counts g 0)) (wrongCheck intervals places drifts g j)
+
+-- the place of a thing where thing 0 is a count, whose place is `last`, and thing j + 1 is entry j
+abbrev pub thingPlace : ℕ → ℕ → ℕ
+thingPlace last zero = last
+thingPlace last (suc j) = j
+
+-- "9 | over 64 fuel lines, or a number outside its range": thing 0 is their count, thing j + 1 is line j, "quantity in
+-- thousandths of a unit 0..1,000,000,000 and factor in grams CO2 per unit 0..4,000,000"
+unfoldable pub wrongFuel : List ℕ → List ℕ → ℕ → Bool
+wrongFuel quantity factor zero = ltb fuelsMost (length quantity)
+wrongFuel quantity factor (suc j) = either (ltb 1000000000 (getD quantity j 0)) (ltb 4000000 (getD factor j 0))
