@@ -71,24 +71,7 @@ injected = one 1 6 1 [] []
 abbrev pub stopped : List ℕ → List ℕ → Call
 stopped = one 0 2 0
 
--- one interval with a flow reading of 1,000, and two checks of the flow instrument
-abbrev pub checked : ℕ → ℕ → ℤ → ℤ → Call
-checked first second d e =
-    callOf
-    (record {
-      mine = 0;
-      kind = 2;
-      counts = 2 ∷ 0 ∷ [];
-      places = first ∷ second ∷ [];
-      drifts = d ∷ e ∷ [];
-      flow = 1000 ∷ [];
-      content = 10000 ∷ [];
-      status = 1 ∷ [];
-      quantity = [];
-      factor = [];
-    })
-
--- counts, positions and drifts as given, one interval
+-- one interval with a flow reading of 1,000; counts, positions and drifts as given
 abbrev pub counted : List ℕ → List ℕ → List ℤ → Call
 counted counts places drifts =
     callOf
@@ -104,6 +87,10 @@ counted counts places drifts =
       quantity = [];
       factor = [];
     })
+
+-- the same with two checks of the flow instrument
+abbrev pub checked : ℕ → ℕ → ℤ → ℤ → Call
+checked first second d e = counted (2 ∷ 0 ∷ []) (first ∷ second ∷ []) (d ∷ e ∷ [])
 
 -- 33 attested intervals without the flow of the one after `before` others: 100 before it, 101 after it
 abbrev pub gapped : ℕ → Call

@@ -29,16 +29,15 @@ right : (judged worked ≡ Clean) × (judged injected ≡ Clean) × (judged (sto
 unfolding judged verdictOf intervalsStep devicesStep lengthsOf wantedOf lengthsStep mineStep kindsStep misplacedStep wrongCheck wrongThing checksStep wrongReading readingsStep wrongFuel fuelsStep
 right = (refl, refl, refl, refl, refl)
 
--- A check past N; two at one position; a wrong count before its wrong entry; a wrong flow entry before a wrong count of CH4.
-checks : (judged (checked 0 2 (pos 0) (pos 0)) ≡ Refused (Check 0 1)) × (judged (checked 1 1 (pos 0) (pos 0)) ≡ Refused (Check 0 1))
+-- A check past N; a wrong count before its wrong entry; a wrong flow entry before a wrong count of CH4.
+checks : (judged (checked 0 2 (pos 0) (pos 0)) ≡ Refused (Check 0 1))
     × (judged (counted (33 ∷ 0 ∷ []) (9 ∷ []) (pos 30000 ∷ [])) ≡ Refused (Check 0 32))
     × (judged (counted (1 ∷ 33 ∷ []) (0 ∷ []) (pos 20001 ∷ [])) ≡ Refused (Check 0 0))
 unfolding judged verdictOf intervalsStep devicesStep lengthsOf wantedOf lengthsStep mineStep kindsStep misplacedStep wrongCheck wrongThing checksStep wrongReading readingsStep wrongFuel fuelsStep
-checks = (refl, refl, refl, refl)
+checks = (refl, refl, refl)
 
--- 65 quantities beside 64 factors are 3; 65 lines are 9 at 64; the last of 64 lines wrong is 9 at 63.
+-- 65 quantities beside 64 factors are 3; the last of 64 lines wrong is 9 at 63.
 fuels : (judged (stopped (replicate 65 0) (replicate 64 0)) ≡ Refused Lengths)
-    × (judged (stopped (replicate 65 0) (replicate 65 0)) ≡ Refused (Fuel 64))
     × (judged (stopped (replicate 63 0 ++ (1000000001 ∷ [])) (replicate 64 0)) ≡ Refused (Fuel 63))
 unfolding judged verdictOf intervalsStep devicesStep lengthsOf wantedOf lengthsStep mineStep kindsStep misplacedStep wrongCheck wrongThing checksStep wrongReading readingsStep wrongFuel fuelsStep
-fuels = (refl, refl, refl)
+fuels = (refl, refl)
