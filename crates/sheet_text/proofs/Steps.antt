@@ -3,6 +3,7 @@ use Prim.Native.Nat.{ℕ, zero, suc, _+_, _^_, _≤_, _<_}
 use mathlib.Core.Path.{_≡_, refl, sym, ap, _∙_, subst}
 use mathlib.Core.List.{List, [], _∷_, _++_, map}
 use native.Mathlib.Omega.{arith}
+use denote.Enum.Declared.{tagOf}
 use lib.ListN.{length, getD, take, drop, length-append}
 use lib.Seq.{sets, length-sets, take-suc, take-all, split-at}
 use lib.IntN.{ℤ, pos, negsuc}
@@ -17,14 +18,22 @@ use Rattle.text.specs.Form.{Form, Of, ReadAs, Broken, RefusedAt}
 use Rattle.text.specs.Decimal.{Fit, plain}
 use Rattle.text.specs.Line.{Entry, lineOf, line, linesOf, AllFit, lines}
 use Rattle.text.specs.Answer.{Put, NaturalIn, WholeIn, wrongAt, wholeWrongAt, Asked, AskedSigned}
+use Rattle.text.proofs.Natural as NaturalType
+use Rattle.text.proofs.Whole as WholeType
 use Rattle.text.proofs.Forms.{refused-alike}
+use Rattle.text.proofs.Lines.{natural-read, whole-read, natural-wrong, whole-wrong}
 use Rattle.text.proofs.Writing.{put-leads}
 use Rattle.text.proofs.Tables.{lines-read, lines-broken, lines-past, lines-all, lines-put, lines-append, lines-longest, lines-snoc, Wide, longest}
 use Rattle.figures.specs.declared.Figures.{Figures}
 use Rattle.sheet_text.specs.Sheet.{schema, valuesOf, textOf, InRange, IsSheet, unsigned64, signed64}
-use Rattle.sheet_text.specs.Read.{Accepted}
+use Rattle.sheet_text.specs.Read.{Accepted, Refused, HeadIn, volumesOf, headWrong}
 use Rattle.sheet_text.specs.Write.{Done, Short}
+use Rattle.sheet_text.specs.declared.ReadAnswer.the-variants as ReadAnswer
 use Rattle.sheet_text.specs.declared.WriteAnswer.the-variants as WriteAnswer
+use Rattle.sheet_text.specs.declared.Volumes.{Volumes}
+use Rattle.sheet_text.specs.declared.Head.{Head}
+use Rattle.sheet_text.specs.declared.Head.the-variants as Head
+use Rattle.sheet_text.proofs.Head as HeadType
 
 abbrev blank : Entry
 blank = record { key = []; range = plain 0 0 }
@@ -194,23 +203,50 @@ module _ (t : List ℕ) (i : ℕ) (h : i < 15) (zs : List ℤ) (p : ℕ) (a : Re
   short : i < length schema
   short = omega (arith, schema-length)
 
-  pub read-step : (z : ℤ) (q : ℕ) → ReadAs (line (entryAt i .key) (entryAt i .range)) t p q z → ReadAs (lines (take (suc i) schema)) t 0 q (zs ++ (z ∷ []))
+  read-step : (z : ℤ) (q : ℕ) → ReadAs (line (entryAt i .key) (entryAt i .range)) t p q z → ReadAs (lines (take (suc i) schema)) t 0 q (zs ++ (z ∷ []))
   read-step z q b =
       subst (λ (es : List Entry). ReadAs (lines es) t 0 q (zs ++ (z ∷ []))) (sym (take-suc schema i blank short))
       (lines-read (take i schema) (entryAt i) zs z t 0 p q a b)
 
-  pub read-refused : (k : ℕ) → Broken (Of (line (entryAt i .key) (entryAt i .range))) t p k → RefusedAt IsSheet t k
-  read-refused k b =
-      sheet-refused t k
-      (subst (λ (es : List Entry). RefusedAt (Of (lines es)) t k) (sym (split-at schema i blank short))
-      (lines-broken (take i schema) t p zs a (entryAt i) (drop (suc i) schema) k b (drop (suc i) zeros) (fit-drop (suc i) schema zeros zeros-fit)))
+  read-refused : (k : ℕ) → Broken (Of (line (entryAt i .key) (entryAt i .range))) t p k → Refused t (ReadAnswer.NoSheet k)
+  read-refused k b = record {
+    number = refl;
+    device = refl;
+    place = sheet-refused t k
+        (subst (λ (es : List Entry). RefusedAt (Of (lines es)) t k) (sym (split-at schema i blank short))
+        (lines-broken (take i schema) t p zs a (entryAt i) (drop (suc i) schema) k b (drop (suc i) zeros) (fit-drop (suc i) schema zeros zeros-fit)));
+  }
 
-module _ (t : List ℕ) (zs : List ℤ) (p : ℕ) (a : ReadAs (lines (take 15 schema)) t 0 p zs) where
+-- The same with what the reader of a line answered and promises.
+module _ {t : List ℕ} {zs : List ℤ} {p : ℕ} (i : ℕ) (h : i < 15) (a : ReadAs (lines (take i schema)) t 0 p zs) where
+  pub natural-step : {r : Natural} {v q : ℕ} → r ≡ Natural.Value v q → NaturalIn (line (entryAt i .key) (entryAt i .range)) t p r → ReadAs (lines (take (suc i) schema)) t 0 q (zs ++ (pos v ∷ []))
+  natural-step {r} {v} {q} e b = read-step t i h zs p a (pos v) q (natural-read (line (entryAt i .key) (entryAt i .range)) t p r v q e b)
+
+  pub whole-step : {r : Whole} {z : ℤ} {q : ℕ} → r ≡ Whole.Value z q → WholeIn (line (entryAt i .key) (entryAt i .range)) t p r → ReadAs (lines (take (suc i) schema)) t 0 q (zs ++ (z ∷ []))
+  whole-step {r} {z} {q} e b = read-step t i h zs p a z q (whole-read (line (entryAt i .key) (entryAt i .range)) t p r z q e b)
+
+  pub whole-fit : {r : Whole} {z : ℤ} {q : ℕ} → r ≡ Whole.Value z q → WholeIn (line (entryAt i .key) (entryAt i .range)) t p r → Fit (entryAt i .range) z
+  whole-fit {r} {z} {q} e b = whole-read (line (entryAt i .key) (entryAt i .range)) t p r z q e b .taken
+
+  pub natural-refused : (r : Natural) {k : ℕ} → tagOf NaturalType.the-type r ≡ 1 → k ≡ wrongAt r → NaturalIn (line (entryAt i .key) (entryAt i .range)) t p r → Refused t (ReadAnswer.NoSheet k)
+  natural-refused r {k} tag e b = read-refused t i h zs p a k (natural-wrong (line (entryAt i .key) (entryAt i .range)) t p k r tag e b)
+
+  pub whole-refused : (r : Whole) {k : ℕ} → tagOf WholeType.the-type r ≡ 1 → k ≡ wholeWrongAt r → WholeIn (line (entryAt i .key) (entryAt i .range)) t p r → Refused t (ReadAnswer.NoSheet k)
+  whole-refused r {k} tag e b = read-refused t i h zs p a k (whole-wrong (line (entryAt i .key) (entryAt i .range)) t p k r tag e b)
+
+pub head-read : {t : List ℕ} {r : Head} {v : Volumes} {q : ℕ} → r ≡ Head.Read v q → HeadIn t r → ReadAs (lines (take 8 schema)) t 0 q (volumesOf v)
+head-read {t} e b = subst (HeadIn t) e b
+
+pub head-refused : {t : List ℕ} (r : Head) {k : ℕ} → tagOf HeadType.the-type r ≡ 1 → k ≡ headWrong r → HeadIn t r → Refused t (ReadAnswer.NoSheet k)
+head-refused (Head.Read v q) tag e b = absurd (omega (arith, tag))
+head-refused {t} (Head.Wrong j) tag e b = subst (λ (x : ℕ). Refused t (ReadAnswer.NoSheet x)) (sym e) b
+
+module _ {t : List ℕ} {zs : List ℤ} {p : ℕ} (a : ReadAs (lines (take 15 schema)) t 0 p zs) where
   all-lines : take 15 schema ≡ schema
   all-lines = take-all 15 schema (omega (arith, schema-length))
 
-  pub read-past : p < length t → RefusedAt IsSheet t p
-  read-past h = sheet-refused t p (subst (λ (es : List Entry). RefusedAt (Of (lines es)) t p) all-lines (lines-past (take 15 schema) t p zs a h))
+  pub read-past : p < length t → Refused t (ReadAnswer.NoSheet p)
+  read-past h = record { number = refl; device = refl; place = sheet-refused t p (subst (λ (es : List Entry). RefusedAt (Of (lines es)) t p) all-lines (lines-past (take 15 schema) t p zs a h)) }
 
   pub read-all : length t ≤ p → (f : Figures) → valuesOf f ≡ zs → Accepted t f
   unfolding textOf InRange
@@ -287,11 +323,11 @@ put-short f old mid n same size short most = record {
 
 -- ---- what the readers of lines are asked
 
-pub asked : (t : List ℕ) (p : ℕ) → p ≤ length t → Asked t p 0 18446744073709551615 10
-asked t p h = record { within = h; low = omega arith; range = omega arith; stop = omega arith }
+pub asked : {t : List ℕ} {p : ℕ} → p ≤ length t → Asked t p 0 18446744073709551615 10
+asked h = record { within = h; low = omega arith; range = omega arith; stop = omega arith }
 
-pub asked-signed : (t : List ℕ) (p : ℕ) → p ≤ length t → AskedSigned t p 9223372036854775808 9223372036854775807 10
-asked-signed t p h = record { within = h; some = omega arith; negative = omega arith; positive = omega arith; stop = omega arith }
+pub asked-signed : {t : List ℕ} {p : ℕ} → p ≤ length t → AskedSigned t p 9223372036854775808 9223372036854775807 10
+asked-signed h = record { within = h; some = omega arith; negative = omega arith; positive = omega arith; stop = omega arith }
 
 pub signed-back : (z : ℤ) → Fit signed64 z → toZ w64 (ofZ w64 z) ≡ z
 signed-back z h = toZ-ofZ w64 z (fits z h)
