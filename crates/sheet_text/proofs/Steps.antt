@@ -15,7 +15,7 @@ use Rattle.text.specs.declared.Natural.the-variants as Natural
 use Rattle.text.specs.declared.Whole.{Whole}
 use Rattle.text.specs.declared.Whole.the-variants as Whole
 use Rattle.text.specs.Form.{Form, Of, ReadAs, Broken, RefusedAt}
-use Rattle.text.specs.Decimal.{Fit, plain}
+use Rattle.text.specs.Decimal.{Range, Fit, plain}
 use Rattle.text.specs.Line.{Entry, lineOf, line, linesOf, AllFit, lines}
 use Rattle.text.specs.Answer.{Put, NaturalIn, WholeIn, wrongAt, wholeWrongAt, Asked, AskedSigned}
 use Rattle.text.proofs.Natural as NaturalType
@@ -257,19 +257,26 @@ module _ {t : List ℕ} {zs : List ℤ} {p : ℕ} (a : ReadAs (lines (take 15 sc
 
 -- ---- writing
 
-module _ (f : Figures) (fit : InRange f) (i : ℕ) (h : i < 15) (old mid : List ℕ) (p : ℕ) (a : Put old 0 (linesOf (take i schema) (take i (valuesOf f))) mid p) where
+pub signed-back : (z : ℤ) → Fit signed64 z → toZ w64 (ofZ w64 z) ≡ z
+signed-back z h = toZ-ofZ w64 z (fits z h)
+  where
+    fits : (y : ℤ) → Fit signed64 y → SFits w64 y
+    fits (pos n) g = record { sfits = omega (arith, g .1) }
+    fits (negsuc n) g = record { sfits = g }
+
+module _ (f : Figures) (fit : InRange f) (i : ℕ) (h : i < 15) {old mid : List ℕ} {p : ℕ} (a : Put old 0 (linesOf (take i schema) (take i (valuesOf f))) mid p) where
   es-is : take (suc i) schema ≡ take i schema ++ (entryAt i ∷ [])
   es-is = take-suc schema i blank (omega (arith, schema-length))
 
   zs-is : take (suc i) (valuesOf f) ≡ take i (valuesOf f) ++ (valueAt f i ∷ [])
   zs-is = take-suc (valuesOf f) i (pos 0) (omega (arith, values-length f))
 
-  pub put-step : (new : List ℕ) (q : ℕ) → Put mid p (lineOf (entryAt i .key) (valueAt f i)) new q → Put old 0 (linesOf (take (suc i) schema) (take (suc i) (valuesOf f))) new q
+  pub put-step : {new : List ℕ} {q : ℕ} → Put mid p (lineOf (entryAt i .key) (valueAt f i)) new q → Put old 0 (linesOf (take (suc i) schema) (take (suc i) (valuesOf f))) new q
   unfolding InRange
-  put-step new q b =
+  put-step {new} {q} b =
       rw (es-is, zs-is) (lines-put (take i schema) (entryAt i) (take i (valuesOf f)) (valueAt f i) old mid new p q (fit-take i schema (valuesOf f) fit) a b)
 
-  pub put-room : p + length (lineOf (entryAt i .key) (valueAt f i)) ≤ 465
+  pub put-room : p + length (lineOf (entryAt i .key) (valueAt f i)) < 2 ^ 64
   unfolding InRange
   put-room =
       let text : linesOf (take (suc i) schema) (take (suc i) (valuesOf f)) ≡ linesOf (take i schema) (take i (valuesOf f)) ++ lineOf (entryAt i .key) (valueAt f i) =
@@ -285,6 +292,18 @@ module _ (f : Figures) (fit : InRange f) (i : ℕ) (h : i < 15) (old mid : List 
         schema-longest,
       )
 
+  -- The same of a signed line, whose value went through its 64 bits.
+  module _ (r : entryAt i .range ≡ signed64) where
+    same : toZ w64 (ofZ w64 (valueAt f i)) ≡ valueAt f i
+    unfolding InRange
+    same = signed-back (valueAt f i) (subst (λ (x : Range). Fit x (valueAt f i)) r (fit-at schema (valuesOf f) i fit (omega (arith, schema-length))))
+
+    pub put-signed-step : {new : List ℕ} {q : ℕ} → Put mid p (lineOf (entryAt i .key) (toZ w64 (ofZ w64 (valueAt f i)))) new q → Put old 0 (linesOf (take (suc i) schema) (take (suc i) (valuesOf f))) new q
+    put-signed-step {new} {q} b = put-step (subst (λ (z : ℤ). Put mid p (lineOf (entryAt i .key) z) new q) same b)
+
+    pub put-signed-room : p + length (lineOf (entryAt i .key) (toZ w64 (ofZ w64 (valueAt f i)))) < 2 ^ 64
+    put-signed-room = subst (λ (z : ℤ). p + length (lineOf (entryAt i .key) z) < 2 ^ 64) (sym same) put-room
+
 pub sheet-longest : (f : Figures) → InRange f → length (textOf f) ≤ 465
 unfolding textOf InRange
 sheet-longest f fit = omega (arith, lines-longest schema (valuesOf f) schema-wide fit, schema-longest)
@@ -292,9 +311,9 @@ sheet-longest f fit = omega (arith, lines-longest schema (valuesOf f) schema-wid
 pub put-none : (f : Figures) (old : List ℕ) → Put old 0 (linesOf (take 0 schema) (take 0 (valuesOf f))) old 0
 put-none f old = record { stops = refl; is = refl }
 
-pub put-all : (f : Figures) (old new : List ℕ) (p : ℕ) → Put old 0 (linesOf (take 15 schema) (take 15 (valuesOf f))) new p → Put old 0 (textOf f) new p
+pub put-all : (f : Figures) {old new : List ℕ} {p : ℕ} → Put old 0 (linesOf (take 15 schema) (take 15 (valuesOf f))) new p → Put old 0 (textOf f) new p
 unfolding textOf
-put-all f old new p a =
+put-all f {old} {new} {p} a =
     subst (λ (w : List ℕ). Put old 0 w new p)
     (ap (λ (es : List Entry). linesOf es (take 15 (valuesOf f))) (take-all 15 schema (omega (arith, schema-length)))
     ∙ ap (linesOf schema) (take-all 15 (valuesOf f) (omega (arith, values-length f)))) a
@@ -328,10 +347,3 @@ asked h = record { within = h; low = omega arith; range = omega arith; stop = om
 
 pub asked-signed : {t : List ℕ} {p : ℕ} → p ≤ length t → AskedSigned t p 9223372036854775808 9223372036854775807 10
 asked-signed h = record { within = h; some = omega arith; negative = omega arith; positive = omega arith; stop = omega arith }
-
-pub signed-back : (z : ℤ) → Fit signed64 z → toZ w64 (ofZ w64 z) ≡ z
-signed-back z h = toZ-ofZ w64 z (fits z h)
-  where
-    fits : (y : ℤ) → Fit signed64 y → SFits w64 y
-    fits (pos n) g = record { sfits = omega (arith, g .1) }
-    fits (negsuc n) g = record { sfits = g }

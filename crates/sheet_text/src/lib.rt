@@ -4,9 +4,10 @@ use text::Natural;
 use text::Whole;
 ghost use Prim.Native.Nat.{_≤_};
 ghost use mathlib.Core.Path.{_≡_};
-ghost use lib.ListN.{length};
+ghost use lib.ListN.{length, take};
 ghost use Rattle.text.specs.Answer.{Put};
-ghost use Rattle.sheet_text.specs.Sheet.{textOf};
+ghost use Rattle.text.specs.Line.{linesOf};
+ghost use Rattle.sheet_text.specs.Sheet.{textOf, schema, valuesOf, InRange};
 ghost use Rattle.sheet_text.specs.Read as Read;
 ghost use Rattle.sheet_text.specs.Read.{ReadRight, HeadIn, headWrong};
 ghost use Rattle.sheet_text.specs.Write as Write;
@@ -89,9 +90,10 @@ impl WriteAnswer {
     }
 }
 
-// The sheet's lines into the buffer as far as it goes, and their length whatever the buffer's.
-fn put_sheet(f: Figures, buf: &mut [u8]) -> usize
-    ensures { λ r. ⌜ Put (now (buf .entry)) 0 (textOf f) (now (buf .exit)) r × (length (textOf f) ≤ 465) ⌝ }
+// The sheet's first eight lines into the buffer as far as it goes, and their length. Rules out: a line left out; two lines exchanged.
+fn put_head(f: Figures, buf: &mut [u8]) -> usize
+    requires { ⌜ InRange f ⌝ }
+    ensures { λ r. ⌜ Put (now (buf .entry)) 0 (linesOf (take 8 schema) (take 8 (valuesOf f))) (now (buf .exit)) r ⌝ }
 {
     let p1 = text::put_line(buf, 0, b"intervals=", f.intervals);
     let p2 = text::put_line(buf, p1, b"devices=", f.devices);
@@ -100,7 +102,14 @@ fn put_sheet(f: Figures, buf: &mut [u8]) -> usize
     let p5 = text::put_line(buf, p4, b"excluded=", f.excluded);
     let p6 = text::put_line(buf, p5, b"methane_l=", f.methane_l);
     let p7 = text::put_line(buf, p6, b"destroyed_l=", f.destroyed_l);
-    let p8 = text::put_line(buf, p7, b"uncombusted_l=", f.uncombusted_l);
+    text::put_line(buf, p7, b"uncombusted_l=", f.uncombusted_l)
+}
+
+// The sheet's lines into the buffer as far as it goes, and their length whatever the buffer's.
+fn put_sheet(f: Figures, buf: &mut [u8]) -> usize
+    ensures { λ r. ⌜ Put (now (buf .entry)) 0 (textOf f) (now (buf .exit)) r × (length (textOf f) ≤ 465) ⌝ }
+{
+    let p8 = put_head(f, buf);
     let p9 = text::put_line(buf, p8, b"baseline_mg=", f.baseline_mg);
     let p10 = text::put_line(buf, p9, b"co2_mg=", f.co2_mg);
     let p11 = text::put_line(buf, p10, b"uncombusted_mg=", f.uncombusted_mg);
