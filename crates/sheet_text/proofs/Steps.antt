@@ -3,6 +3,7 @@ use Prim.Native.Nat.{ℕ, zero, suc, _+_, _^_, _≤_, _<_}
 use mathlib.Core.Path.{_≡_, refl, sym, ap, _∙_, subst}
 use mathlib.Core.List.{List, [], _∷_, _++_, map}
 use native.Mathlib.Omega.{arith}
+use denote.Enum.Declared.{tagOf}
 use lib.ListN.{length, getD, take, drop, length-append}
 use lib.Seq.{sets, length-sets, take-suc, take-all, split-at}
 use lib.IntN.{ℤ, pos, negsuc}
@@ -14,17 +15,25 @@ use Rattle.text.specs.declared.Natural.the-variants as Natural
 use Rattle.text.specs.declared.Whole.{Whole}
 use Rattle.text.specs.declared.Whole.the-variants as Whole
 use Rattle.text.specs.Form.{Form, Of, ReadAs, Broken, RefusedAt}
-use Rattle.text.specs.Decimal.{Fit, plain}
+use Rattle.text.specs.Decimal.{Range, Fit, plain}
 use Rattle.text.specs.Line.{Entry, lineOf, line, linesOf, AllFit, lines}
 use Rattle.text.specs.Answer.{Put, NaturalIn, WholeIn, wrongAt, wholeWrongAt, Asked, AskedSigned}
+use Rattle.text.proofs.Natural as NaturalType
+use Rattle.text.proofs.Whole as WholeType
 use Rattle.text.proofs.Forms.{refused-alike}
+use Rattle.text.proofs.Lines.{natural-read, whole-read, natural-wrong, whole-wrong}
 use Rattle.text.proofs.Writing.{put-leads}
 use Rattle.text.proofs.Tables.{lines-read, lines-broken, lines-past, lines-all, lines-put, lines-append, lines-longest, lines-snoc, Wide, longest}
 use Rattle.figures.specs.declared.Figures.{Figures}
 use Rattle.sheet_text.specs.Sheet.{schema, valuesOf, textOf, InRange, IsSheet, unsigned64, signed64}
-use Rattle.sheet_text.specs.Read.{Accepted}
+use Rattle.sheet_text.specs.Read.{Accepted, Refused, HeadIn, volumesOf, headWrong}
 use Rattle.sheet_text.specs.Write.{Done, Short}
+use Rattle.sheet_text.specs.declared.ReadAnswer.the-variants as ReadAnswer
 use Rattle.sheet_text.specs.declared.WriteAnswer.the-variants as WriteAnswer
+use Rattle.sheet_text.specs.declared.Volumes.{Volumes}
+use Rattle.sheet_text.specs.declared.Head.{Head}
+use Rattle.sheet_text.specs.declared.Head.the-variants as Head
+use Rattle.sheet_text.proofs.Head as HeadType
 
 abbrev blank : Entry
 blank = record { key = []; range = plain 0 0 }
@@ -194,23 +203,50 @@ module _ (t : List ℕ) (i : ℕ) (h : i < 15) (zs : List ℤ) (p : ℕ) (a : Re
   short : i < length schema
   short = omega (arith, schema-length)
 
-  pub read-step : (z : ℤ) (q : ℕ) → ReadAs (line (entryAt i .key) (entryAt i .range)) t p q z → ReadAs (lines (take (suc i) schema)) t 0 q (zs ++ (z ∷ []))
+  read-step : (z : ℤ) (q : ℕ) → ReadAs (line (entryAt i .key) (entryAt i .range)) t p q z → ReadAs (lines (take (suc i) schema)) t 0 q (zs ++ (z ∷ []))
   read-step z q b =
       subst (λ (es : List Entry). ReadAs (lines es) t 0 q (zs ++ (z ∷ []))) (sym (take-suc schema i blank short))
       (lines-read (take i schema) (entryAt i) zs z t 0 p q a b)
 
-  pub read-refused : (k : ℕ) → Broken (Of (line (entryAt i .key) (entryAt i .range))) t p k → RefusedAt IsSheet t k
-  read-refused k b =
-      sheet-refused t k
-      (subst (λ (es : List Entry). RefusedAt (Of (lines es)) t k) (sym (split-at schema i blank short))
-      (lines-broken (take i schema) t p zs a (entryAt i) (drop (suc i) schema) k b (drop (suc i) zeros) (fit-drop (suc i) schema zeros zeros-fit)))
+  read-refused : (k : ℕ) → Broken (Of (line (entryAt i .key) (entryAt i .range))) t p k → Refused t (ReadAnswer.NoSheet k)
+  read-refused k b = record {
+    number = refl;
+    device = refl;
+    place = sheet-refused t k
+        (subst (λ (es : List Entry). RefusedAt (Of (lines es)) t k) (sym (split-at schema i blank short))
+        (lines-broken (take i schema) t p zs a (entryAt i) (drop (suc i) schema) k b (drop (suc i) zeros) (fit-drop (suc i) schema zeros zeros-fit)));
+  }
 
-module _ (t : List ℕ) (zs : List ℤ) (p : ℕ) (a : ReadAs (lines (take 15 schema)) t 0 p zs) where
+-- The same with what the reader of a line answered and promises.
+module _ {t : List ℕ} {zs : List ℤ} {p : ℕ} (i : ℕ) (h : i < 15) (a : ReadAs (lines (take i schema)) t 0 p zs) where
+  pub natural-step : {r : Natural} {v q : ℕ} → r ≡ Natural.Value v q → NaturalIn (line (entryAt i .key) (entryAt i .range)) t p r → ReadAs (lines (take (suc i) schema)) t 0 q (zs ++ (pos v ∷ []))
+  natural-step {r} {v} {q} e b = read-step t i h zs p a (pos v) q (natural-read (line (entryAt i .key) (entryAt i .range)) t p r v q e b)
+
+  pub whole-step : {r : Whole} {z : ℤ} {q : ℕ} → r ≡ Whole.Value z q → WholeIn (line (entryAt i .key) (entryAt i .range)) t p r → ReadAs (lines (take (suc i) schema)) t 0 q (zs ++ (z ∷ []))
+  whole-step {r} {z} {q} e b = read-step t i h zs p a z q (whole-read (line (entryAt i .key) (entryAt i .range)) t p r z q e b)
+
+  pub whole-fit : {r : Whole} {z : ℤ} {q : ℕ} → r ≡ Whole.Value z q → WholeIn (line (entryAt i .key) (entryAt i .range)) t p r → Fit (entryAt i .range) z
+  whole-fit {r} {z} {q} e b = whole-read (line (entryAt i .key) (entryAt i .range)) t p r z q e b .taken
+
+  pub natural-refused : (r : Natural) {k : ℕ} → tagOf NaturalType.the-type r ≡ 1 → k ≡ wrongAt r → NaturalIn (line (entryAt i .key) (entryAt i .range)) t p r → Refused t (ReadAnswer.NoSheet k)
+  natural-refused r {k} tag e b = read-refused t i h zs p a k (natural-wrong (line (entryAt i .key) (entryAt i .range)) t p k r tag e b)
+
+  pub whole-refused : (r : Whole) {k : ℕ} → tagOf WholeType.the-type r ≡ 1 → k ≡ wholeWrongAt r → WholeIn (line (entryAt i .key) (entryAt i .range)) t p r → Refused t (ReadAnswer.NoSheet k)
+  whole-refused r {k} tag e b = read-refused t i h zs p a k (whole-wrong (line (entryAt i .key) (entryAt i .range)) t p k r tag e b)
+
+pub head-read : {t : List ℕ} {r : Head} {v : Volumes} {q : ℕ} → r ≡ Head.Read v q → HeadIn t r → ReadAs (lines (take 8 schema)) t 0 q (volumesOf v)
+head-read {t} e b = subst (HeadIn t) e b
+
+pub head-refused : {t : List ℕ} (r : Head) {k : ℕ} → tagOf HeadType.the-type r ≡ 1 → k ≡ headWrong r → HeadIn t r → Refused t (ReadAnswer.NoSheet k)
+head-refused (Head.Read v q) tag e b = absurd (omega (arith, tag))
+head-refused {t} (Head.Wrong j) tag e b = subst (λ (x : ℕ). Refused t (ReadAnswer.NoSheet x)) (sym e) b
+
+module _ {t : List ℕ} {zs : List ℤ} {p : ℕ} (a : ReadAs (lines (take 15 schema)) t 0 p zs) where
   all-lines : take 15 schema ≡ schema
   all-lines = take-all 15 schema (omega (arith, schema-length))
 
-  pub read-past : p < length t → RefusedAt IsSheet t p
-  read-past h = sheet-refused t p (subst (λ (es : List Entry). RefusedAt (Of (lines es)) t p) all-lines (lines-past (take 15 schema) t p zs a h))
+  pub read-past : p < length t → Refused t (ReadAnswer.NoSheet p)
+  read-past h = record { number = refl; device = refl; place = sheet-refused t p (subst (λ (es : List Entry). RefusedAt (Of (lines es)) t p) all-lines (lines-past (take 15 schema) t p zs a h)) }
 
   pub read-all : length t ≤ p → (f : Figures) → valuesOf f ≡ zs → Accepted t f
   unfolding textOf InRange
@@ -221,19 +257,26 @@ module _ (t : List ℕ) (zs : List ℤ) (p : ℕ) (a : ReadAs (lines (take 15 sc
 
 -- ---- writing
 
-module _ (f : Figures) (fit : InRange f) (i : ℕ) (h : i < 15) (old mid : List ℕ) (p : ℕ) (a : Put old 0 (linesOf (take i schema) (take i (valuesOf f))) mid p) where
+pub signed-back : (z : ℤ) → Fit signed64 z → toZ w64 (ofZ w64 z) ≡ z
+signed-back z h = toZ-ofZ w64 z (fits z h)
+  where
+    fits : (y : ℤ) → Fit signed64 y → SFits w64 y
+    fits (pos n) g = record { sfits = omega (arith, g .1) }
+    fits (negsuc n) g = record { sfits = g }
+
+module _ (f : Figures) (fit : InRange f) (i : ℕ) (h : i < 15) {old mid : List ℕ} {p : ℕ} (a : Put old 0 (linesOf (take i schema) (take i (valuesOf f))) mid p) where
   es-is : take (suc i) schema ≡ take i schema ++ (entryAt i ∷ [])
   es-is = take-suc schema i blank (omega (arith, schema-length))
 
   zs-is : take (suc i) (valuesOf f) ≡ take i (valuesOf f) ++ (valueAt f i ∷ [])
   zs-is = take-suc (valuesOf f) i (pos 0) (omega (arith, values-length f))
 
-  pub put-step : (new : List ℕ) (q : ℕ) → Put mid p (lineOf (entryAt i .key) (valueAt f i)) new q → Put old 0 (linesOf (take (suc i) schema) (take (suc i) (valuesOf f))) new q
+  pub put-step : {new : List ℕ} {q : ℕ} → Put mid p (lineOf (entryAt i .key) (valueAt f i)) new q → Put old 0 (linesOf (take (suc i) schema) (take (suc i) (valuesOf f))) new q
   unfolding InRange
-  put-step new q b =
+  put-step {new} {q} b =
       rw (es-is, zs-is) (lines-put (take i schema) (entryAt i) (take i (valuesOf f)) (valueAt f i) old mid new p q (fit-take i schema (valuesOf f) fit) a b)
 
-  pub put-room : p + length (lineOf (entryAt i .key) (valueAt f i)) ≤ 465
+  pub put-room : p + length (lineOf (entryAt i .key) (valueAt f i)) < 2 ^ 64
   unfolding InRange
   put-room =
       let text : linesOf (take (suc i) schema) (take (suc i) (valuesOf f)) ≡ linesOf (take i schema) (take i (valuesOf f)) ++ lineOf (entryAt i .key) (valueAt f i) =
@@ -249,6 +292,18 @@ module _ (f : Figures) (fit : InRange f) (i : ℕ) (h : i < 15) (old mid : List 
         schema-longest,
       )
 
+  -- The same of a signed line, whose value went through its 64 bits.
+  module _ (r : entryAt i .range ≡ signed64) where
+    same : toZ w64 (ofZ w64 (valueAt f i)) ≡ valueAt f i
+    unfolding InRange
+    same = signed-back (valueAt f i) (subst (λ (x : Range). Fit x (valueAt f i)) r (fit-at schema (valuesOf f) i fit (omega (arith, schema-length))))
+
+    pub put-signed-step : {new : List ℕ} {q : ℕ} → Put mid p (lineOf (entryAt i .key) (toZ w64 (ofZ w64 (valueAt f i)))) new q → Put old 0 (linesOf (take (suc i) schema) (take (suc i) (valuesOf f))) new q
+    put-signed-step {new} {q} b = put-step (subst (λ (z : ℤ). Put mid p (lineOf (entryAt i .key) z) new q) same b)
+
+    pub put-signed-room : p + length (lineOf (entryAt i .key) (toZ w64 (ofZ w64 (valueAt f i)))) < 2 ^ 64
+    put-signed-room = subst (λ (z : ℤ). p + length (lineOf (entryAt i .key) z) < 2 ^ 64) (sym same) put-room
+
 pub sheet-longest : (f : Figures) → InRange f → length (textOf f) ≤ 465
 unfolding textOf InRange
 sheet-longest f fit = omega (arith, lines-longest schema (valuesOf f) schema-wide fit, schema-longest)
@@ -256,9 +311,9 @@ sheet-longest f fit = omega (arith, lines-longest schema (valuesOf f) schema-wid
 pub put-none : (f : Figures) (old : List ℕ) → Put old 0 (linesOf (take 0 schema) (take 0 (valuesOf f))) old 0
 put-none f old = record { stops = refl; is = refl }
 
-pub put-all : (f : Figures) (old new : List ℕ) (p : ℕ) → Put old 0 (linesOf (take 15 schema) (take 15 (valuesOf f))) new p → Put old 0 (textOf f) new p
+pub put-all : (f : Figures) {old new : List ℕ} {p : ℕ} → Put old 0 (linesOf (take 15 schema) (take 15 (valuesOf f))) new p → Put old 0 (textOf f) new p
 unfolding textOf
-put-all f old new p a =
+put-all f {old} {new} {p} a =
     subst (λ (w : List ℕ). Put old 0 w new p)
     (ap (λ (es : List Entry). linesOf es (take 15 (valuesOf f))) (take-all 15 schema (omega (arith, schema-length)))
     ∙ ap (linesOf schema) (take-all 15 (valuesOf f) (omega (arith, values-length f)))) a
@@ -287,15 +342,8 @@ put-short f old mid n same size short most = record {
 
 -- ---- what the readers of lines are asked
 
-pub asked : (t : List ℕ) (p : ℕ) → p ≤ length t → Asked t p 0 18446744073709551615 10
-asked t p h = record { within = h; low = omega arith; range = omega arith; stop = omega arith }
+pub asked : {t : List ℕ} {p : ℕ} → p ≤ length t → Asked t p 0 18446744073709551615 10
+asked h = record { within = h; low = omega arith; range = omega arith; stop = omega arith }
 
-pub asked-signed : (t : List ℕ) (p : ℕ) → p ≤ length t → AskedSigned t p 9223372036854775808 9223372036854775807 10
-asked-signed t p h = record { within = h; some = omega arith; negative = omega arith; positive = omega arith; stop = omega arith }
-
-pub signed-back : (z : ℤ) → Fit signed64 z → toZ w64 (ofZ w64 z) ≡ z
-signed-back z h = toZ-ofZ w64 z (fits z h)
-  where
-    fits : (y : ℤ) → Fit signed64 y → SFits w64 y
-    fits (pos n) g = record { sfits = omega (arith, g .1) }
-    fits (negsuc n) g = record { sfits = g }
+pub asked-signed : {t : List ℕ} {p : ℕ} → p ≤ length t → AskedSigned t p 9223372036854775808 9223372036854775807 10
+asked-signed h = record { within = h; some = omega arith; negative = omega arith; positive = omega arith; stop = omega arith }

@@ -1,12 +1,18 @@
 -- What reading a sheet answers, and what the answer means.
 use Prim.Native.Nat.{ℕ}
 use mathlib.Core.Path.{_≡_}
-use mathlib.Core.List.{List}
-use Rattle.text.specs.Form.{RefusedAt}
+use mathlib.Core.List.{List, [], _∷_}
+use lib.IntN.{ℤ, pos}
+use lib.ListN.{take}
+use Rattle.text.specs.Form.{RefusedAt, ReadAs}
+use Rattle.text.specs.Line.{lines}
 use Rattle.figures.specs.declared.Figures.{Figures}
 use Rattle.sheet_text.specs.declared.ReadAnswer.{ReadAnswer}
 use Rattle.sheet_text.specs.declared.ReadAnswer.the-variants as ReadAnswer
-use Rattle.sheet_text.specs.Sheet.{textOf, InRange, IsSheet}
+use Rattle.sheet_text.specs.declared.Volumes.{Volumes}
+use Rattle.sheet_text.specs.declared.Head.{Head}
+use Rattle.sheet_text.specs.declared.Head.the-variants as Head
+use Rattle.sheet_text.specs.Sheet.{textOf, InRange, IsSheet, schema}
 
 -- Document 01's number, device and place of an answer: "10 | text isn't a sheet", "10 gives the byte offset", "device 0 for 10 to 13".
 abbrev pub numberOf : ReadAnswer → ℕ
@@ -32,3 +38,26 @@ pub record Refused (t : List ℕ) (a : ReadAnswer) : Type 0 where
 abbrev pub ReadRight : List ℕ → ReadAnswer → Type 0
 ReadRight t (ReadAnswer.Sheet f) = Accepted t f
 ReadRight t (ReadAnswer.NoSheet k) = Refused t (ReadAnswer.NoSheet k)
+
+-- The values of a sheet's first eight lines.
+unfoldable pub volumesOf : Volumes → List ℤ
+volumesOf v =
+    pos (v .«intervals») ∷
+    pos (v .«devices») ∷
+    pos (v .«counted») ∷
+    pos (v .«replaced») ∷
+    pos (v .«excluded») ∷
+    pos (v .«methane_l») ∷
+    pos (v .«destroyed_l») ∷
+    pos (v .«uncombusted_l») ∷
+    []
+
+-- Those lines stand at the text's start, or the text is no sheet.
+abbrev pub HeadIn : List ℕ → Head → Type 0
+HeadIn t (Head.Read v stop) = ReadAs (lines (take 8 schema)) t 0 stop (volumesOf v)
+HeadIn t (Head.Wrong k) = Refused t (ReadAnswer.NoSheet k)
+
+-- The place of an answer that is wrong.
+abbrev pub headWrong : Head → ℕ
+headWrong (Head.Read v stop) = 0
+headWrong (Head.Wrong k) = k

@@ -4,11 +4,12 @@ use text::Natural;
 use text::Whole;
 ghost use Prim.Native.Nat.{_≤_};
 ghost use mathlib.Core.Path.{_≡_};
-ghost use lib.ListN.{length};
+ghost use lib.ListN.{length, take};
 ghost use Rattle.text.specs.Answer.{Put};
-ghost use Rattle.sheet_text.specs.Sheet.{textOf};
+ghost use Rattle.text.specs.Line.{linesOf};
+ghost use Rattle.sheet_text.specs.Sheet.{textOf, schema, valuesOf, InRange};
 ghost use Rattle.sheet_text.specs.Read as Read;
-ghost use Rattle.sheet_text.specs.Read.{ReadRight};
+ghost use Rattle.sheet_text.specs.Read.{ReadRight, HeadIn, headWrong};
 ghost use Rattle.sheet_text.specs.Write as Write;
 ghost use Rattle.sheet_text.specs.Write.{WriteRight};
 
@@ -89,9 +90,10 @@ impl WriteAnswer {
     }
 }
 
-// The sheet's lines into the buffer as far as it goes, and their length whatever the buffer's.
-fn put_sheet(f: Figures, buf: &mut [u8]) -> usize
-    ensures { λ r. ⌜ Put (now (buf .entry)) 0 (textOf f) (now (buf .exit)) r × (length (textOf f) ≤ 465) ⌝ }
+// The sheet's first eight lines into the buffer as far as it goes, and their length. Rules out: a line left out; two lines exchanged.
+fn put_head(f: Figures, buf: &mut [u8]) -> usize
+    requires { ⌜ InRange f ⌝ }
+    ensures { λ r. ⌜ Put (now (buf .entry)) 0 (linesOf (take 8 schema) (take 8 (valuesOf f))) (now (buf .exit)) r ⌝ }
 {
     let p1 = text::put_line(buf, 0, b"intervals=", f.intervals);
     let p2 = text::put_line(buf, p1, b"devices=", f.devices);
@@ -100,7 +102,14 @@ fn put_sheet(f: Figures, buf: &mut [u8]) -> usize
     let p5 = text::put_line(buf, p4, b"excluded=", f.excluded);
     let p6 = text::put_line(buf, p5, b"methane_l=", f.methane_l);
     let p7 = text::put_line(buf, p6, b"destroyed_l=", f.destroyed_l);
-    let p8 = text::put_line(buf, p7, b"uncombusted_l=", f.uncombusted_l);
+    text::put_line(buf, p7, b"uncombusted_l=", f.uncombusted_l)
+}
+
+// The sheet's lines into the buffer as far as it goes, and their length whatever the buffer's.
+fn put_sheet(f: Figures, buf: &mut [u8]) -> usize
+    ensures { λ r. ⌜ Put (now (buf .entry)) 0 (textOf f) (now (buf .exit)) r × (length (textOf f) ≤ 465) ⌝ }
+{
+    let p8 = put_head(f, buf);
     let p9 = text::put_line(buf, p8, b"baseline_mg=", f.baseline_mg);
     let p10 = text::put_line(buf, p9, b"co2_mg=", f.co2_mg);
     let p11 = text::put_line(buf, p10, b"uncombusted_mg=", f.uncombusted_mg);
@@ -122,41 +131,94 @@ pub fn write(f: Figures, buf: &mut [u8]) -> WriteAnswer
     WriteAnswer::Written(m)
 }
 
+// The sheet's lines of counts and litres.
+struct Volumes {
+    intervals: u64,
+    devices: u64,
+    counted: u64,
+    replaced: u64,
+    excluded: u64,
+    methane_l: u64,
+    destroyed_l: u64,
+    uncombusted_l: u64,
+}
+
+// These lines and the place after them, or the offset of the first byte that no sheet could have there.
+enum Head {
+    Read(Volumes, usize),
+    Wrong(usize),
+}
+
+impl Head {
+    // The place of an answer that is wrong. Rules out: 0 for every answer; the place after the lines.
+    fn wrong_at(self) -> usize
+        ensures { λ r. ⌜ r ≡ headWrong self ⌝ }
+    {
+        match self {
+            Head::Read(_, _) => 0,
+            Head::Wrong(k) => k,
+        }
+    }
+}
+
+// Reads the sheet's first eight lines. Rules out: a missing line passed over; the start of the wrong line for its first wrong byte.
+fn read_head(t: &[u8]) -> Head
+    ensures { λ r. ⌜ HeadIn (now (t .entry)) r ⌝ }
+{
+    let a1 = text::read_line(t, 0, b"intervals=", 0, MOST);
+    let Natural::Value(intervals, p1) = a1 else {
+        return Head::Wrong(a1.wrong_at());
+    };
+    let a2 = text::read_line(t, p1, b"devices=", 0, MOST);
+    let Natural::Value(devices, p2) = a2 else {
+        return Head::Wrong(a2.wrong_at());
+    };
+    let a3 = text::read_line(t, p2, b"counted=", 0, MOST);
+    let Natural::Value(counted, p3) = a3 else {
+        return Head::Wrong(a3.wrong_at());
+    };
+    let a4 = text::read_line(t, p3, b"replaced=", 0, MOST);
+    let Natural::Value(replaced, p4) = a4 else {
+        return Head::Wrong(a4.wrong_at());
+    };
+    let a5 = text::read_line(t, p4, b"excluded=", 0, MOST);
+    let Natural::Value(excluded, p5) = a5 else {
+        return Head::Wrong(a5.wrong_at());
+    };
+    let a6 = text::read_line(t, p5, b"methane_l=", 0, MOST);
+    let Natural::Value(methane_l, p6) = a6 else {
+        return Head::Wrong(a6.wrong_at());
+    };
+    let a7 = text::read_line(t, p6, b"destroyed_l=", 0, MOST);
+    let Natural::Value(destroyed_l, p7) = a7 else {
+        return Head::Wrong(a7.wrong_at());
+    };
+    let a8 = text::read_line(t, p7, b"uncombusted_l=", 0, MOST);
+    let Natural::Value(uncombusted_l, p8) = a8 else {
+        return Head::Wrong(a8.wrong_at());
+    };
+    Head::Read(
+        Volumes {
+            intervals,
+            devices,
+            counted,
+            replaced,
+            excluded,
+            methane_l,
+            destroyed_l,
+            uncombusted_l,
+        },
+        p8,
+    )
+}
+
 // Reads a sheet. Rules out: `01` refused at the line's end rather than at the 1; a text with a byte behind the last line accepted.
 pub fn read(t: &[u8]) -> ReadAnswer
     ensures { λ r. ⌜ ReadRight (now (t .entry)) r ⌝ }
 {
-    let a1 = text::read_line(t, 0, b"intervals=", 0, MOST);
-    let Natural::Value(intervals, p1) = a1 else {
-        return ReadAnswer::NoSheet(a1.wrong_at());
-    };
-    let a2 = text::read_line(t, p1, b"devices=", 0, MOST);
-    let Natural::Value(devices, p2) = a2 else {
-        return ReadAnswer::NoSheet(a2.wrong_at());
-    };
-    let a3 = text::read_line(t, p2, b"counted=", 0, MOST);
-    let Natural::Value(counted, p3) = a3 else {
-        return ReadAnswer::NoSheet(a3.wrong_at());
-    };
-    let a4 = text::read_line(t, p3, b"replaced=", 0, MOST);
-    let Natural::Value(replaced, p4) = a4 else {
-        return ReadAnswer::NoSheet(a4.wrong_at());
-    };
-    let a5 = text::read_line(t, p4, b"excluded=", 0, MOST);
-    let Natural::Value(excluded, p5) = a5 else {
-        return ReadAnswer::NoSheet(a5.wrong_at());
-    };
-    let a6 = text::read_line(t, p5, b"methane_l=", 0, MOST);
-    let Natural::Value(methane_l, p6) = a6 else {
-        return ReadAnswer::NoSheet(a6.wrong_at());
-    };
-    let a7 = text::read_line(t, p6, b"destroyed_l=", 0, MOST);
-    let Natural::Value(destroyed_l, p7) = a7 else {
-        return ReadAnswer::NoSheet(a7.wrong_at());
-    };
-    let a8 = text::read_line(t, p7, b"uncombusted_l=", 0, MOST);
-    let Natural::Value(uncombusted_l, p8) = a8 else {
-        return ReadAnswer::NoSheet(a8.wrong_at());
+    let h = read_head(t);
+    let Head::Read(v, p8) = h else {
+        return ReadAnswer::NoSheet(h.wrong_at());
     };
     let a9 = text::read_line(t, p8, b"baseline_mg=", 0, MOST);
     let Natural::Value(baseline_mg, p9) = a9 else {
@@ -190,14 +252,14 @@ pub fn read(t: &[u8]) -> ReadAnswer
         return ReadAnswer::NoSheet(p15);
     }
     ReadAnswer::Sheet(Figures {
-        intervals,
-        devices,
-        counted,
-        replaced,
-        excluded,
-        methane_l,
-        destroyed_l,
-        uncombusted_l,
+        intervals: v.intervals,
+        devices: v.devices,
+        counted: v.counted,
+        replaced: v.replaced,
+        excluded: v.excluded,
+        methane_l: v.methane_l,
+        destroyed_l: v.destroyed_l,
+        uncombusted_l: v.uncombusted_l,
         baseline_mg,
         co2_mg,
         uncombusted_mg,

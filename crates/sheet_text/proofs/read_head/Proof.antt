@@ -1,0 +1,309 @@
+-- `sheet_text::read_head` meets its contract: one fact a line, each from the one before. Assumes nothing.
+use mathlib.Core.Path.{refl}
+use mathlib.Core.List.{List, [], _∷_, _++_}
+use native.Mathlib.Omega.{arith}
+use lib.IntN.{ℤ, pos}
+use lib.ListN.{take}
+use denote.Ref.{now}
+use Rattle.text.specs.Form.{ReadAs}
+use Rattle.text.specs.Line.{lines}
+use Rattle.text.proofs.Tables.{lines-none}
+use Rattle.sheet_text.specs.Sheet.{schema}
+use Rattle.sheet_text.specs.Read.{volumesOf}
+use Rattle.sheet_text.proofs.Steps.{natural-step, natural-refused, asked}
+use Rattle.sheet_text.proofs.read_head.Statement.{statement}
+use Rattle.sheet_text.proofs.read_head.Tie as tie
+
+-- Where the call started, seen from behind the i-th line; the values read up to there; and that their lines stand in the text.
+fact0 : (c : tie.Start) → ReadAs (lines (take 0 schema)) (now (c .args .t)) 0 0 []
+fact0 c = lines-none (now (c .args .t)) 0 (omega arith)
+
+abbrev start1 : tie.After-known-told → tie.Start
+start1 c = c .before .before .before .before .before .before
+
+abbrev values1 : tie.After-known-told → List ℤ
+values1 c = pos (c .before .a1 .given .0 .0) ∷ []
+
+fact1 : (c : tie.After-known-told) → ReadAs (lines (take 1 schema)) (now (start1 c .args .t)) 0 (c .before .a1 .given .0 .1 .0) (values1 c)
+unfolding schema
+fact1 c = natural-step 0 (omega arith) (fact0 (start1 c)) (c .before .a1 .given .1) (c .before .before .before .read-line .ensures)
+
+abbrev start2 : tie.After-known-told2 → tie.Start
+start2 c = start1 (c .before .before .before .before .before)
+
+abbrev values2 : tie.After-known-told2 → List ℤ
+values2 c = values1 (c .before .before .before .before .before) ++ (pos (c .before .a2 .given .0 .0) ∷ [])
+
+fact2 : (c : tie.After-known-told2) → ReadAs (lines (take 2 schema)) (now (start2 c .args .t)) 0 (c .before .a2 .given .0 .1 .0) (values2 c)
+unfolding schema
+fact2 c = natural-step 1 (omega arith) (fact1 (c .before .before .before .before .before)) (c .before .a2 .given .1) (c .before .before .before .read-line2 .ensures)
+
+abbrev start3 : tie.After-known-told3 → tie.Start
+start3 c = start2 (c .before .before .before .before .before)
+
+abbrev values3 : tie.After-known-told3 → List ℤ
+values3 c = values2 (c .before .before .before .before .before) ++ (pos (c .before .a3 .given .0 .0) ∷ [])
+
+fact3 : (c : tie.After-known-told3) → ReadAs (lines (take 3 schema)) (now (start3 c .args .t)) 0 (c .before .a3 .given .0 .1 .0) (values3 c)
+unfolding schema
+fact3 c = natural-step 2 (omega arith) (fact2 (c .before .before .before .before .before)) (c .before .a3 .given .1) (c .before .before .before .read-line3 .ensures)
+
+abbrev start4 : tie.After-known-told4 → tie.Start
+start4 c = start3 (c .before .before .before .before .before)
+
+abbrev values4 : tie.After-known-told4 → List ℤ
+values4 c = values3 (c .before .before .before .before .before) ++ (pos (c .before .a4 .given .0 .0) ∷ [])
+
+fact4 : (c : tie.After-known-told4) → ReadAs (lines (take 4 schema)) (now (start4 c .args .t)) 0 (c .before .a4 .given .0 .1 .0) (values4 c)
+unfolding schema
+fact4 c = natural-step 3 (omega arith) (fact3 (c .before .before .before .before .before)) (c .before .a4 .given .1) (c .before .before .before .read-line4 .ensures)
+
+abbrev start5 : tie.After-known-told5 → tie.Start
+start5 c = start4 (c .before .before .before .before .before)
+
+abbrev values5 : tie.After-known-told5 → List ℤ
+values5 c = values4 (c .before .before .before .before .before) ++ (pos (c .before .a5 .given .0 .0) ∷ [])
+
+fact5 : (c : tie.After-known-told5) → ReadAs (lines (take 5 schema)) (now (start5 c .args .t)) 0 (c .before .a5 .given .0 .1 .0) (values5 c)
+unfolding schema
+fact5 c = natural-step 4 (omega arith) (fact4 (c .before .before .before .before .before)) (c .before .a5 .given .1) (c .before .before .before .read-line5 .ensures)
+
+abbrev start6 : tie.After-known-told6 → tie.Start
+start6 c = start5 (c .before .before .before .before .before)
+
+abbrev values6 : tie.After-known-told6 → List ℤ
+values6 c = values5 (c .before .before .before .before .before) ++ (pos (c .before .a6 .given .0 .0) ∷ [])
+
+fact6 : (c : tie.After-known-told6) → ReadAs (lines (take 6 schema)) (now (start6 c .args .t)) 0 (c .before .a6 .given .0 .1 .0) (values6 c)
+unfolding schema
+fact6 c = natural-step 5 (omega arith) (fact5 (c .before .before .before .before .before)) (c .before .a6 .given .1) (c .before .before .before .read-line6 .ensures)
+
+abbrev start7 : tie.After-known-told7 → tie.Start
+start7 c = start6 (c .before .before .before .before .before)
+
+abbrev values7 : tie.After-known-told7 → List ℤ
+values7 c = values6 (c .before .before .before .before .before) ++ (pos (c .before .a7 .given .0 .0) ∷ [])
+
+fact7 : (c : tie.After-known-told7) → ReadAs (lines (take 7 schema)) (now (start7 c .args .t)) 0 (c .before .a7 .given .0 .1 .0) (values7 c)
+unfolding schema
+fact7 c = natural-step 6 (omega arith) (fact6 (c .before .before .before .before .before)) (c .before .a7 .given .1) (c .before .before .before .read-line7 .ensures)
+
+abbrev start8 : tie.After-known-told8 → tie.Start
+start8 c = start7 (c .before .before .before .before .before)
+
+abbrev values8 : tie.After-known-told8 → List ℤ
+values8 c = values7 (c .before .before .before .before .before) ++ (pos (c .before .a8 .given .0 .0) ∷ [])
+
+fact8 : (c : tie.After-known-told8) → ReadAs (lines (take 8 schema)) (now (start8 c .args .t)) 0 (c .before .a8 .given .0 .1 .0) (values8 c)
+unfolding schema
+fact8 c = natural-step 7 (omega arith) (fact7 (c .before .before .before .before .before)) (c .before .a8 .given .1) (c .before .before .before .read-line8 .ensures)
+
+slice-aggregate-read-line : tie.Need-slice-aggregate-read-line
+slice-aggregate-read-line c = refl
+
+read-line-requires : tie.Need-read-line-requires
+read-line-requires c κs = asked (fact0 (c .before .before) .stands .within)
+
+enum-known-a1 : tie.Need-enum-known-a1
+enum-known-a1 c = c .match .keys1
+
+enum-told : tie.Need-enum-told
+enum-told c = c .match .keys2
+
+wrong-at-requires : tie.Need-wrong-at-requires
+wrong-at-requires c κs = tt
+
+returns : tie.Need-returns
+unfolding schema
+returns c = natural-refused 0 (omega arith) (fact0 (c .before .before .before .before .before .before)) (c .before .before .before .read-line .result) (c .before .before .match .keys2) (c .wrong-at .ensures) (c .before .before .before .read-line .ensures)
+
+slice-aggregate-read-line-2 : tie.Need-slice-aggregate-read-line-2
+slice-aggregate-read-line-2 c = refl
+
+read-line-requires-2 : tie.Need-read-line-requires-2
+read-line-requires-2 c κs = asked (fact1 (c .before) .stands .within)
+
+enum-known-a2 : tie.Need-enum-known-a2
+enum-known-a2 c = c .match2 .keys1
+
+enum-told-2 : tie.Need-enum-told-2
+enum-told-2 c = c .match2 .keys2
+
+wrong-at-requires-2 : tie.Need-wrong-at-requires-2
+wrong-at-requires-2 c κs = tt
+
+returns-2 : tie.Need-returns-2
+unfolding schema
+returns-2 c = natural-refused 1 (omega arith) (fact1 (c .before .before .before .before .before)) (c .before .before .before .read-line2 .result) (c .before .before .match2 .keys2) (c .wrong-at2 .ensures) (c .before .before .before .read-line2 .ensures)
+
+slice-aggregate-read-line-3 : tie.Need-slice-aggregate-read-line-3
+slice-aggregate-read-line-3 c = refl
+
+read-line-requires-3 : tie.Need-read-line-requires-3
+read-line-requires-3 c κs = asked (fact2 (c .before) .stands .within)
+
+enum-known-a3 : tie.Need-enum-known-a3
+enum-known-a3 c = c .match3 .keys1
+
+enum-told-3 : tie.Need-enum-told-3
+enum-told-3 c = c .match3 .keys2
+
+wrong-at-requires-3 : tie.Need-wrong-at-requires-3
+wrong-at-requires-3 c κs = tt
+
+returns-3 : tie.Need-returns-3
+unfolding schema
+returns-3 c = natural-refused 2 (omega arith) (fact2 (c .before .before .before .before .before)) (c .before .before .before .read-line3 .result) (c .before .before .match3 .keys2) (c .wrong-at3 .ensures) (c .before .before .before .read-line3 .ensures)
+
+slice-aggregate-read-line-4 : tie.Need-slice-aggregate-read-line-4
+slice-aggregate-read-line-4 c = refl
+
+read-line-requires-4 : tie.Need-read-line-requires-4
+read-line-requires-4 c κs = asked (fact3 (c .before) .stands .within)
+
+enum-known-a4 : tie.Need-enum-known-a4
+enum-known-a4 c = c .match4 .keys1
+
+enum-told-4 : tie.Need-enum-told-4
+enum-told-4 c = c .match4 .keys2
+
+wrong-at-requires-4 : tie.Need-wrong-at-requires-4
+wrong-at-requires-4 c κs = tt
+
+returns-4 : tie.Need-returns-4
+unfolding schema
+returns-4 c = natural-refused 3 (omega arith) (fact3 (c .before .before .before .before .before)) (c .before .before .before .read-line4 .result) (c .before .before .match4 .keys2) (c .wrong-at4 .ensures) (c .before .before .before .read-line4 .ensures)
+
+slice-aggregate-read-line-5 : tie.Need-slice-aggregate-read-line-5
+slice-aggregate-read-line-5 c = refl
+
+read-line-requires-5 : tie.Need-read-line-requires-5
+read-line-requires-5 c κs = asked (fact4 (c .before) .stands .within)
+
+enum-known-a5 : tie.Need-enum-known-a5
+enum-known-a5 c = c .match5 .keys1
+
+enum-told-5 : tie.Need-enum-told-5
+enum-told-5 c = c .match5 .keys2
+
+wrong-at-requires-5 : tie.Need-wrong-at-requires-5
+wrong-at-requires-5 c κs = tt
+
+returns-5 : tie.Need-returns-5
+unfolding schema
+returns-5 c = natural-refused 4 (omega arith) (fact4 (c .before .before .before .before .before)) (c .before .before .before .read-line5 .result) (c .before .before .match5 .keys2) (c .wrong-at5 .ensures) (c .before .before .before .read-line5 .ensures)
+
+slice-aggregate-read-line-6 : tie.Need-slice-aggregate-read-line-6
+slice-aggregate-read-line-6 c = refl
+
+read-line-requires-6 : tie.Need-read-line-requires-6
+read-line-requires-6 c κs = asked (fact5 (c .before) .stands .within)
+
+enum-known-a6 : tie.Need-enum-known-a6
+enum-known-a6 c = c .match6 .keys1
+
+enum-told-6 : tie.Need-enum-told-6
+enum-told-6 c = c .match6 .keys2
+
+wrong-at-requires-6 : tie.Need-wrong-at-requires-6
+wrong-at-requires-6 c κs = tt
+
+returns-6 : tie.Need-returns-6
+unfolding schema
+returns-6 c = natural-refused 5 (omega arith) (fact5 (c .before .before .before .before .before)) (c .before .before .before .read-line6 .result) (c .before .before .match6 .keys2) (c .wrong-at6 .ensures) (c .before .before .before .read-line6 .ensures)
+
+slice-aggregate-read-line-7 : tie.Need-slice-aggregate-read-line-7
+slice-aggregate-read-line-7 c = refl
+
+read-line-requires-7 : tie.Need-read-line-requires-7
+read-line-requires-7 c κs = asked (fact6 (c .before) .stands .within)
+
+enum-known-a7 : tie.Need-enum-known-a7
+enum-known-a7 c = c .match7 .keys1
+
+enum-told-7 : tie.Need-enum-told-7
+enum-told-7 c = c .match7 .keys2
+
+wrong-at-requires-7 : tie.Need-wrong-at-requires-7
+wrong-at-requires-7 c κs = tt
+
+returns-7 : tie.Need-returns-7
+unfolding schema
+returns-7 c = natural-refused 6 (omega arith) (fact6 (c .before .before .before .before .before)) (c .before .before .before .read-line7 .result) (c .before .before .match7 .keys2) (c .wrong-at7 .ensures) (c .before .before .before .read-line7 .ensures)
+
+slice-aggregate-read-line-8 : tie.Need-slice-aggregate-read-line-8
+slice-aggregate-read-line-8 c = refl
+
+read-line-requires-8 : tie.Need-read-line-requires-8
+read-line-requires-8 c κs = asked (fact7 (c .before) .stands .within)
+
+enum-known-a8 : tie.Need-enum-known-a8
+enum-known-a8 c = c .match8 .keys1
+
+enum-told-8 : tie.Need-enum-told-8
+enum-told-8 c = c .match8 .keys2
+
+wrong-at-requires-8 : tie.Need-wrong-at-requires-8
+wrong-at-requires-8 c κs = tt
+
+returns-8 : tie.Need-returns-8
+unfolding schema
+returns-8 c = natural-refused 7 (omega arith) (fact7 (c .before .before .before .before .before)) (c .before .before .before .read-line8 .result) (c .before .before .match8 .keys2) (c .wrong-at8 .ensures) (c .before .before .before .read-line8 .ensures)
+
+returns-9 : tie.Need-returns-9
+unfolding volumesOf
+returns-9 c = fact8 c
+
+pub read-head-spec : {M : Type 1} → statement M
+read-head-spec =
+    tie.close
+    (tie.spec
+    slice-aggregate-read-line
+    read-line-requires
+    enum-known-a1
+    enum-told
+    wrong-at-requires
+    returns
+    slice-aggregate-read-line-2
+    read-line-requires-2
+    enum-known-a2
+    enum-told-2
+    wrong-at-requires-2
+    returns-2
+    slice-aggregate-read-line-3
+    read-line-requires-3
+    enum-known-a3
+    enum-told-3
+    wrong-at-requires-3
+    returns-3
+    slice-aggregate-read-line-4
+    read-line-requires-4
+    enum-known-a4
+    enum-told-4
+    wrong-at-requires-4
+    returns-4
+    slice-aggregate-read-line-5
+    read-line-requires-5
+    enum-known-a5
+    enum-told-5
+    wrong-at-requires-5
+    returns-5
+    slice-aggregate-read-line-6
+    read-line-requires-6
+    enum-known-a6
+    enum-told-6
+    wrong-at-requires-6
+    returns-6
+    slice-aggregate-read-line-7
+    read-line-requires-7
+    enum-known-a7
+    enum-told-7
+    wrong-at-requires-7
+    returns-7
+    slice-aggregate-read-line-8
+    read-line-requires-8
+    enum-known-a8
+    enum-told-8
+    wrong-at-requires-8
+    returns-8
+    returns-9)
