@@ -1,6 +1,6 @@
 -- The last pass as a loop's invariant: the rows and sums after the first i intervals. Start, step and end.
 -- Assumes nothing.
-use Prim.Native.Nat.{ℕ, zero, suc, _+_, _*_, _≤_, _<_}
+use Prim.Native.Nat.{ℕ, zero, suc, _+_, _-_, _*_, _≤_, _<_}
 use mathlib.Core.Path.{_≡_, refl, sym, ap, ap₂, _∙_, subst}
 use mathlib.Core.Bool.{Bool, true, false}
 use mathlib.Core.List.{List, _++_}
@@ -103,6 +103,10 @@ row-more i g old row v e h q =
 sum-more : (i : ℕ) (g : ℕ → ℕ) (s v : ℕ) → s ≡ sumTo i g → v ≡ g i → s + v ≡ sumTo (i + 1) g
 sum-more i g s v e q = ap₂ _+_ e q ∙ ap (λ (m : ℕ). sumTo m g) (sym (add-one i))
 
+-- the count of outcome 0 is one of ten
+pub first-slot : 0 < 10
+first-slot = omega arith
+
 -- counts of nothing
 pub zeros : (m j : ℕ) → _≡_ {A = ℕ} (getD (replicate m 0) j 0) 0
 zeros zero j = refl
@@ -156,6 +160,9 @@ module _ {h : Held} {n : ℕ} {old o f c counts : List ℕ} {methane i : ℕ} (x
   -- the interval's outcome is one of ten
   pub going-few : i < n → (e : Entry) → e ≡ entryAt h i → e .outcome < 10
   going-few l e q = subst (λ (k : ℕ). k < 10) (sym (ap (λ (y : Entry). y .outcome) q)) (outcome-of-ten h n (x .ready) i l)
+
+  pub going-slot : i < n → (e : Entry) → e ≡ entryAt h i → Fits w64 (e .outcome) × Fits w64 (e .outcome * 8)
+  going-slot l e q = let k : e .outcome < 10 = going-few l e q in (record { fits = omega arith }, record { fits = omega arith })
 
   pub going-more : i < n → (e : Entry) → e ≡ entryAt h i
       → Going h n old (set o i (e .outcome)) (set f i (e .flow)) (set c i (e .content)) (set counts (e .outcome) (getD counts (e .outcome) 0 + 1)) (methane + e .litres) (i + 1)
@@ -234,6 +241,25 @@ module _ {h : Held} {n : ℕ} {old o f c counts : List ℕ} {methane i : ℕ} (x
           x .each j w
           ∙ ap (λ (m : ℕ). countOf m (λ k. entryAt h k .outcome) j) at
           ∙ sym (getD-build 10 (countOf (length (h .flow)) (λ k. entryAt h k .outcome)) j 0 w))
+
+  -- addresses within the rows, and the next turn
+  pub index-fits : i < n → Fits w64 (i * 2) × Fits w64 (i * 4)
+  index-fits l = let m : n ≤ 35136 = x .ready .few in (record { fits = omega arith }, record { fits = omega arith })
+
+  pub next-fits : i < n → Fits w64 (i + 1)
+  next-fits l = let m : n ≤ 35136 = x .ready .few in record { fits = omega arith }
+
+  pub turns-less : i < n → n - (i + 1) < n - i
+  turns-less l = omega arith
+
+  pub inside-series : i < n → (i < length (h .flow)) × (i < length (h .content)) × (i < length (h .temp)) × (i < length (h .press)) × (i < length (h .status))
+  inside-series l = (
+    subst (λ (m : ℕ). i < m) (sym (x .ready .flows)) l,
+    subst (λ (m : ℕ). i < m) (sym (x .ready .contents)) l,
+    subst (λ (m : ℕ). i < m) (sym (x .ready .temps)) l,
+    subst (λ (m : ℕ). i < m) (sym (x .ready .presses)) l,
+    subst (λ (m : ℕ). i < m) (sym (x .ready .statuses)) l,
+  )
 
   pub inside-rows : i < n → (i < length o) × (i < length f) × (i < length c)
   inside-rows l =

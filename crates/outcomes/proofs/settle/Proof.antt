@@ -8,7 +8,6 @@ use Prim.Native.Nat.{ℕ, _<_}
 use Rattle.volume.specs.Volume.{methaneLitres, Inside}
 use Rattle.outcomes.specs.Outcomes.{heldOutcome}
 use Rattle.outcomes.proofs.Laws.{outcomeFor, counted-inside, counted-entry, excluded-entry}
-use borrow.Author.Needs.{needs}
 use Rattle.outcomes.proofs.settle.Statement.{statement}
 use Rattle.outcomes.proofs.settle.Tie as tie
 
@@ -23,16 +22,16 @@ got c =
     cc (c .outcome .ensures)
 
 held-outcome-requires : tie.Need-held-outcome-requires
-held-outcome-requires c κs = search needs
+held-outcome-requires c κs = tt
 
 held-outcome-requires-2 : tie.Need-held-outcome-requires-2
-held-outcome-requires-2 c κs = search needs
+held-outcome-requires-2 c κs = tt
 
 lacks-requires : tie.Need-lacks-requires
-lacks-requires c κs = search needs
+lacks-requires c κs = tt
 
 outcome-requires : tie.Need-outcome-requires
-outcome-requires c κs = search needs
+outcome-requires c κs = tt
 
 methane-litres-requires : tie.Need-methane-litres-requires
 methane-litres-requires c κs = let a = c .before .before .before .before .before .args in
