@@ -57,6 +57,55 @@ added-is t a b c u p q r i =
         ≡ t .excluded + sumTo 7 (λ j. getD (a .counts) (3 + j) 0)
     same = omega arith
 
+-- the sums that the code makes fit, in the order in which it makes them
+pub record Sums (t : Totals) (a : Account) : Type 0 where
+  pub replaced-two : Fits w64 (getD (a .counts) 1 0 + getD (a .counts) 2 0)
+  pub excluded-to-4 : Fits w64 (getD (a .counts) 3 0 + getD (a .counts) 4 0)
+  pub excluded-to-5 : Fits w64 (getD (a .counts) 3 0 + getD (a .counts) 4 0 + getD (a .counts) 5 0)
+  pub excluded-to-6 : Fits w64 (getD (a .counts) 3 0 + getD (a .counts) 4 0 + getD (a .counts) 5 0 + getD (a .counts) 6 0)
+  pub excluded-to-7 : Fits w64 (getD (a .counts) 3 0 + getD (a .counts) 4 0 + getD (a .counts) 5 0 + getD (a .counts) 6 0 + getD (a .counts) 7 0)
+  pub excluded-to-8 : Fits w64 (getD (a .counts) 3 0 + getD (a .counts) 4 0 + getD (a .counts) 5 0 + getD (a .counts) 6 0 + getD (a .counts) 7 0 + getD (a .counts) 8 0)
+  pub excluded-to-9 : Fits w64 (getD (a .counts) 3 0 + getD (a .counts) 4 0 + getD (a .counts) 5 0 + getD (a .counts) 6 0 + getD (a .counts) 7 0 + getD (a .counts) 8 0 + getD (a .counts) 9 0)
+  pub replaced : Fits w64 (t .replaced + (getD (a .counts) 1 0 + getD (a .counts) 2 0))
+  pub excluded : Fits w64 (t .excluded + (getD (a .counts) 3 0 + getD (a .counts) 4 0 + getD (a .counts) 5 0 + getD (a .counts) 6 0 + getD (a .counts) 7 0 + getD (a .counts) 8 0 + getD (a .counts) 9 0))
+  pub methane : Fits w64 (t .methane + a .methane)
+  pub destroyed : Fits w64 (t .destroyed + a .destroyed)
+  pub uncombusted : Fits w64 (t .uncombusted + a .uncombusted)
+
+pub sums-fit : (t : Totals) (a : Account) → Room t a → Sums t a
+sums-fit t a x =
+    let c1 : getD (a .counts) 1 0 ≤ 35136 = x .count-most 1 in
+    let c2 : getD (a .counts) 2 0 ≤ 35136 = x .count-most 2 in
+    let c3 : getD (a .counts) 3 0 ≤ 35136 = x .count-most 3 in
+    let c4 : getD (a .counts) 4 0 ≤ 35136 = x .count-most 4 in
+    let c5 : getD (a .counts) 5 0 ≤ 35136 = x .count-most 5 in
+    let c6 : getD (a .counts) 6 0 ≤ 35136 = x .count-most 6 in
+    let c7 : getD (a .counts) 7 0 ≤ 35136 = x .count-most 7 in
+    let c8 : getD (a .counts) 8 0 ≤ 35136 = x .count-most 8 in
+    let c9 : getD (a .counts) 9 0 ≤ 35136 = x .count-most 9 in
+    let m = x .methane-most in
+    let d = x .destroyed-most in
+    let u = x .uncombusted-most in
+    let mr = x .methane-room in
+    let dr = x .destroyed-room in
+    let ur = x .uncombusted-room in
+    let rr = x .replaced-room in
+    let er = x .excluded-room in
+    record {
+      replaced-two = record { fits = omega arith };
+      excluded-to-4 = record { fits = omega arith };
+      excluded-to-5 = record { fits = omega arith };
+      excluded-to-6 = record { fits = omega arith };
+      excluded-to-7 = record { fits = omega arith };
+      excluded-to-8 = record { fits = omega arith };
+      excluded-to-9 = record { fits = omega arith };
+      replaced = record { fits = omega arith };
+      excluded = record { fits = omega arith };
+      methane = record { fits = omega arith };
+      destroyed = record { fits = omega arith };
+      uncombusted = record { fits = omega arith };
+    }
+
 hit-most : (x j : ℕ) → hit x j ≤ 1
 hit-most x j = go (eqb x j)
   where
