@@ -103,10 +103,6 @@ row-more i g old row v e h q =
 sum-more : (i : ℕ) (g : ℕ → ℕ) (s v : ℕ) → s ≡ sumTo i g → v ≡ g i → s + v ≡ sumTo (i + 1) g
 sum-more i g s v e q = ap₂ _+_ e q ∙ ap (λ (m : ℕ). sumTo m g) (sym (add-one i))
 
--- the count of outcome 0 is one of ten
-pub first-slot : 0 < 10
-first-slot = omega arith
-
 -- counts of nothing
 pub zeros : (m j : ℕ) → _≡_ {A = ℕ} (getD (replicate m 0) j 0) 0
 zeros zero j = refl
@@ -190,17 +186,17 @@ module _ {h : Held} {n : ℕ} {old o f c counts : List ℕ} {methane i : ℕ} (x
       (going-more l e q))
 
   -- the sums so far leave room for one more interval
-  pub methane-room : i < n → (e : Entry) → e ≡ entryAt h i → methane + e .litres ≤ 35137 * litresMost
+  pub methane-room : i < n → (e : Entry) → e ≡ entryAt h i → Fits w64 (methane + e .litres)
   methane-room l e q =
       let a : sumTo i (λ k. entryAt h k .litres) ≤ i * litresMost = methane-to h n (x .ready) i (x .within) in
       let b : methane ≡ sumTo i (λ k. entryAt h k .litres) = x .sum in
       let m : n ≤ 35136 = x .ready .few in
       let u : e .litres ≡ entryAt h i .litres = ap (λ (y : Entry). y .litres) q in
       let v : entryAt h i .litres ≤ litresMost = litres-of-entry h n (x .ready) i l in
-      omega arith
+      record { fits = omega arith }
 
   -- whichever count it is
-  pub slot-fits : (k v : ℕ) → k < 10 → v ≤ 1 → Fits w64 (getD counts k 0 + v)
+  pub slot-fits : (k v : ℕ) → k < 10 → v < 2 → Fits w64 (getD counts k 0 + v)
   slot-fits k v l z =
       let a : countOf i (λ m. entryAt h m .outcome) k ≤ i * 1 = count-most i (λ m. entryAt h m .outcome) k in
       let b : getD counts k 0 ≡ countOf i (λ m. entryAt h m .outcome) k = x .each k l in

@@ -1,10 +1,11 @@
 use Prim.Native.Nat.{_-_}
 use mathlib.Core.Path.{_≡_, refl, sym, _∙_}
 use native.Mathlib.Omega.{arith}
+use lib.Dec.{lit<}
 use lib.ListN.{getD}
 use mir.Facts.{toZ-ofZ}
 use Rattle.outcomes.specs.Outcomes.{entryAt, Held}
-use Rattle.outcomes.proofs.Pass.{Going, reads-ready, reads-entry, measured-inside, measured-entry, going-none, going-few, going-more, going-kept, methane-room, slot-fits, going-all, length-rows, inside-series, inside-rows, index-fits, next-fits, turns-less, zeros, first-slot, going-slot}
+use Rattle.outcomes.proofs.Pass.{Going, reads-ready, reads-entry, measured-inside, measured-entry, going-none, going-few, going-more, going-kept, methane-room, slot-fits, going-all, length-rows, inside-series, inside-rows, index-fits, next-fits, turns-less, going-slot, zeros}
 use Rattle.outcomes.proofs.finish.Statement.{statement}
 use Rattle.outcomes.proofs.finish.Tie as tie
 
@@ -102,16 +103,16 @@ slice-write-outcomes : tie.Need-slice-write-outcomes Inv-loop μ-loop
 slice-write-outcomes c = omega (arith, inside-rows (c .before .before .before .before .before .before .before .before .before .before .before .loop .inv) (c .before .before .before .before .before .before .before .before .before .before .loop-test .taken) .0)
 
 array-read-counts : tie.Need-array-read-counts Inv-loop μ-loop
-array-read-counts c = first-slot
+array-read-counts c = lit< tt
 
 add-counts : tie.Need-add-counts Inv-loop μ-loop
-add-counts c = slot-fits (c .before .before .before .before .before .before .before .before .before .before .before .loop .inv) _ _ (omega arith) (omega arith)
+add-counts c = slot-fits (c .before .before .before .before .before .before .before .before .before .before .before .loop .inv) _ _ (lit< tt) (lit< tt)
 
 array-write-counts : tie.Need-array-write-counts Inv-loop μ-loop
-array-write-counts c = first-slot
+array-write-counts c = lit< tt
 
 add-methane : tie.Need-add-methane Inv-loop μ-loop
-add-methane c = record { fits = omega (arith, methane-room (c .before .before .before .before .before .before .before .before .before .before .before .loop .inv) (c .before .before .before .before .before .before .before .before .before .before .loop-test .taken) _ (whole c)) }
+add-methane c = methane-room (c .before .before .before .before .before .before .before .before .before .before .before .loop .inv) (c .before .before .before .before .before .before .before .before .before .before .loop-test .taken) _ (whole c)
 
 add-i : tie.Need-add-i Inv-loop μ-loop
 add-i c = next-fits (c .before .before .before .before .before .before .before .before .before .before .before .loop .inv) (c .before .before .before .before .before .before .before .before .before .before .loop-test .taken)
@@ -150,13 +151,13 @@ array-read-counts-2 : tie.Need-array-read-counts-2 Inv-loop μ-loop
 array-read-counts-2 c = going-few (c .before .before .before .before .before .before .before .before .before .before .before .loop .inv) (c .before .before .before .before .before .before .before .before .before .before .loop-test .taken) _ (got c)
 
 add-counts-2 : tie.Need-add-counts-2 Inv-loop μ-loop
-add-counts-2 c = slot-fits (c .before .before .before .before .before .before .before .before .before .before .before .loop .inv) (c .settle .result .outcome) _ (going-few (c .before .before .before .before .before .before .before .before .before .before .before .loop .inv) (c .before .before .before .before .before .before .before .before .before .before .loop-test .taken) _ (got c)) (omega arith)
+add-counts-2 c = slot-fits (c .before .before .before .before .before .before .before .before .before .before .before .loop .inv) (c .settle .result .outcome) _ (going-few (c .before .before .before .before .before .before .before .before .before .before .before .loop .inv) (c .before .before .before .before .before .before .before .before .before .before .loop-test .taken) _ (got c)) (lit< tt)
 
 array-write-counts-2 : tie.Need-array-write-counts-2 Inv-loop μ-loop
 array-write-counts-2 c = going-few (c .before .before .before .before .before .before .before .before .before .before .before .loop .inv) (c .before .before .before .before .before .before .before .before .before .before .loop-test .taken) _ (got c)
 
 add-methane-2 : tie.Need-add-methane-2 Inv-loop μ-loop
-add-methane-2 c = record { fits = omega (arith, methane-room (c .before .before .before .before .before .before .before .before .before .before .before .before .loop .inv) (c .before .before .before .before .before .before .before .before .before .before .before .loop-test .taken) _ (got (c .before))) }
+add-methane-2 c = methane-room (c .before .before .before .before .before .before .before .before .before .before .before .before .loop .inv) (c .before .before .before .before .before .before .before .before .before .before .before .loop-test .taken) _ (got (c .before))
 
 add-i-2 : tie.Need-add-i-2 Inv-loop μ-loop
 add-i-2 c = next-fits (c .before .before .before .before .before .before .before .before .before .before .before .before .loop .inv) (c .before .before .before .before .before .before .before .before .before .before .before .loop-test .taken)
