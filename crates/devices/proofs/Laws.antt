@@ -8,6 +8,8 @@ use native.Mathlib.Nat.{le-trans, le-refl, le-step, mul-le-mul-right, mul-le-mul
 use native.Mathlib.Decide.{decLe}
 use native.Mathlib.Omega.{arith}
 use lib.Dec.{eqb}
+use mir.Syntax.{w64}
+use mir.Val.{Fits}
 use lib.ListN.{length, getD, List·getD-eq-default}
 use Rattle.rows.specs.Rows.{pick, build, sumTo, countOf, hit, cut, put, join}
 use Rattle.rows.proofs.Laws.{length-build, getD-build, length-cut, room, length-put}
@@ -16,11 +18,11 @@ use Rattle.protocol.specs.Numbers.{methaneMg}
 use Rattle.balance.specs.Balance.{destroyedOf, uncombustedOf, overDevices, baselineAll, carbonDioxideAll, uncombustedAll, baselineMg, carbonDioxideMg, uncombustedMg, deviceMost}
 use Rattle.balance.proofs.Laws.{destroyed-le, uncombusted-le, baseline-most, carbon-most, uncombusted-most}
 use Rattle.outcomes.specs.Outcomes.{outcomes}
-use Rattle.device.specs.Device.{Records, intervalsOf, outcomeAt, methaneOf, accountOf, Right}
+use Rattle.device.specs.Device.{Records, intervalsOf, outcomeAt, flowUsedAt, contentUsedAt, methaneOf, accountOf, Right, Filled}
 use Rattle.device.specs.declared.Account.{Account}
 use Rattle.device.proofs.Laws.{device-most}
 use Rattle.devices.specs.declared.Totals.{Totals}
-use Rattle.devices.specs.Devices.{Lent, recordsOf, Sound}
+use Rattle.devices.specs.Devices.{Lent, rowOf, recordsOf, outcomePart, flowPart, contentPart, Sound, Written}
 use Rattle.devices.specs.Totals.{countIn, countedIn, replacedIn, excludedIn, kindIn, litresIn, totalsOf, added, Room}
 
 -- what the code adds up is what the specification adds
@@ -54,6 +56,55 @@ added-is t a b c u p q r i =
     same : t .excluded + (getD (a .counts) 3 0 + getD (a .counts) 4 0 + getD (a .counts) 5 0 + getD (a .counts) 6 0 + getD (a .counts) 7 0 + getD (a .counts) 8 0 + getD (a .counts) 9 0)
         ≡ t .excluded + sumTo 7 (λ j. getD (a .counts) (3 + j) 0)
     same = omega arith
+
+-- the sums that the code makes fit, in the order in which it makes them
+pub record Sums (t : Totals) (a : Account) : Type 0 where
+  pub replaced-two : Fits w64 (getD (a .counts) 1 0 + getD (a .counts) 2 0)
+  pub excluded-to-4 : Fits w64 (getD (a .counts) 3 0 + getD (a .counts) 4 0)
+  pub excluded-to-5 : Fits w64 (getD (a .counts) 3 0 + getD (a .counts) 4 0 + getD (a .counts) 5 0)
+  pub excluded-to-6 : Fits w64 (getD (a .counts) 3 0 + getD (a .counts) 4 0 + getD (a .counts) 5 0 + getD (a .counts) 6 0)
+  pub excluded-to-7 : Fits w64 (getD (a .counts) 3 0 + getD (a .counts) 4 0 + getD (a .counts) 5 0 + getD (a .counts) 6 0 + getD (a .counts) 7 0)
+  pub excluded-to-8 : Fits w64 (getD (a .counts) 3 0 + getD (a .counts) 4 0 + getD (a .counts) 5 0 + getD (a .counts) 6 0 + getD (a .counts) 7 0 + getD (a .counts) 8 0)
+  pub excluded-to-9 : Fits w64 (getD (a .counts) 3 0 + getD (a .counts) 4 0 + getD (a .counts) 5 0 + getD (a .counts) 6 0 + getD (a .counts) 7 0 + getD (a .counts) 8 0 + getD (a .counts) 9 0)
+  pub replaced : Fits w64 (t .replaced + (getD (a .counts) 1 0 + getD (a .counts) 2 0))
+  pub excluded : Fits w64 (t .excluded + (getD (a .counts) 3 0 + getD (a .counts) 4 0 + getD (a .counts) 5 0 + getD (a .counts) 6 0 + getD (a .counts) 7 0 + getD (a .counts) 8 0 + getD (a .counts) 9 0))
+  pub methane : Fits w64 (t .methane + a .methane)
+  pub destroyed : Fits w64 (t .destroyed + a .destroyed)
+  pub uncombusted : Fits w64 (t .uncombusted + a .uncombusted)
+
+pub sums-fit : (t : Totals) (a : Account) → Room t a → Sums t a
+sums-fit t a x =
+    let c1 : getD (a .counts) 1 0 ≤ 35136 = x .count-most 1 in
+    let c2 : getD (a .counts) 2 0 ≤ 35136 = x .count-most 2 in
+    let c3 : getD (a .counts) 3 0 ≤ 35136 = x .count-most 3 in
+    let c4 : getD (a .counts) 4 0 ≤ 35136 = x .count-most 4 in
+    let c5 : getD (a .counts) 5 0 ≤ 35136 = x .count-most 5 in
+    let c6 : getD (a .counts) 6 0 ≤ 35136 = x .count-most 6 in
+    let c7 : getD (a .counts) 7 0 ≤ 35136 = x .count-most 7 in
+    let c8 : getD (a .counts) 8 0 ≤ 35136 = x .count-most 8 in
+    let c9 : getD (a .counts) 9 0 ≤ 35136 = x .count-most 9 in
+    let m = x .methane-most in
+    let d = x .destroyed-most in
+    let u = x .uncombusted-most in
+    let mr = x .methane-room in
+    let dr = x .destroyed-room in
+    let ur = x .uncombusted-room in
+    let rr = x .replaced-room in
+    let er = x .excluded-room in
+    record {
+      replaced-two = record { fits = omega arith };
+      excluded-to-4 = record { fits = omega arith };
+      excluded-to-5 = record { fits = omega arith };
+      excluded-to-6 = record { fits = omega arith };
+      excluded-to-7 = record { fits = omega arith };
+      excluded-to-8 = record { fits = omega arith };
+      excluded-to-9 = record { fits = omega arith };
+      replaced = record { fits = omega arith };
+      excluded = record { fits = omega arith };
+      methane = record { fits = omega arith };
+      destroyed = record { fits = omega arith };
+      uncombusted = record { fits = omega arith };
+    }
 
 hit-most : (x j : ℕ) → hit x j ≤ 1
 hit-most x j = go (eqb x j)
@@ -202,3 +253,96 @@ scaled d devices n k h m l j =
     let c = cells d devices n h m l in
     let z : d * n * k ≤ 562176 * 8 = mul-le-mul (le-trans (let w : d * n ≤ devices * n = omega arith in w) (c .1)) j in
     omega arith
+
+-- ---- device d's parts of all rows: where they begin and end, in entries and in bytes
+
+pub record Places (l : Lent) (d : ℕ) : Type 0 where
+  pub kind-in : d < length (l .kinds)
+  pub kind-fits : Fits w64 (d * 4)
+  pub counts-fit : Fits w64 (d * 2)
+  pub counts-end-fits : Fits w64 (d * 2 + 2)
+  pub counts-bytes : Fits w64 (d * 2 * 4)
+  pub counts-up : d * 2 ≤ d * 2 + 2
+  pub counts-in : d * 2 + 2 ≤ length (l .counts)
+  pub checks-fit : Fits w64 (d * 64)
+  pub checks-end-fits : Fits w64 (d * 64 + 64)
+  pub checks-bytes : Fits w64 (d * 64 * 4)
+  pub checks-up : d * 64 ≤ d * 64 + 64
+  pub places-in : d * 64 + 64 ≤ length (l .places)
+  pub drifts-in : d * 64 + 64 ≤ length (l .drifts)
+  pub row-pairs : Fits w64 (d * l .intervals * 2)
+  pub row-fours : Fits w64 (d * l .intervals * 4)
+  pub row-up : d * l .intervals ≤ d * l .intervals + l .intervals
+
+pub places-of : (l : Lent) (devices d : ℕ) → Sound l devices → d < devices → Places l d
+places-of l devices d x h =
+    let m : devices ≤ 16 = x .few-devices in
+    let n : l .intervals ≤ 35136 = x .few in
+    let k : length (l .kinds) ≡ devices = x .kinds-long in
+    let c : length (l .counts) ≡ 2 * devices = x .counts-long in
+    let p : length (l .places) ≡ 64 * devices = x .places-long in
+    let q : length (l .drifts) ≡ 64 * devices = x .drifts-long in
+    record {
+      kind-in = omega arith;
+      kind-fits = record { fits = omega arith };
+      counts-fit = record { fits = omega arith };
+      counts-end-fits = record { fits = omega arith };
+      counts-bytes = record { fits = omega arith };
+      counts-up = omega arith;
+      counts-in = omega arith;
+      checks-fit = record { fits = omega arith };
+      checks-end-fits = record { fits = omega arith };
+      checks-bytes = record { fits = omega arith };
+      checks-up = omega arith;
+      places-in = omega arith;
+      drifts-in = omega arith;
+      row-pairs = record { fits = scaled d devices (l .intervals) 2 h m n (omega arith) };
+      row-fours = record { fits = scaled d devices (l .intervals) 4 h m n (omega arith) };
+      row-up = omega arith;
+    }
+
+-- ---- what is lent on to one device's function, and what it leaves in the whole rows
+
+module _ (l : Lent) (devices : ℕ) (x : Sound l devices) (d : ℕ) (h : d < devices) where
+  pub parts-right : (o f c : List ℕ) → length o ≡ devices * l .intervals → length f ≡ devices * l .intervals → length c ≡ devices * l .intervals
+      → Right (recordsOf l d) × (length (rowOf o (l .intervals) d) ≡ length (rowOf (l .flow) (l .intervals) d))
+      × (length (rowOf f (l .intervals) d) ≡ length (rowOf (l .flow) (l .intervals) d))
+      × (length (rowOf c (l .intervals) d) ≡ length (rowOf (l .flow) (l .intervals) d))
+  parts-right o f c p q r = (x .right d h, part o p, part f q, part c r)
+    where
+      part : (xs : List ℕ) → length xs ≡ devices * l .intervals → length (rowOf xs (l .intervals) d) ≡ length (rowOf (l .flow) (l .intervals) d)
+      part xs e =
+          same-part xs (l .flow) (d * l .intervals) (l .intervals) (part-end d devices (l .intervals) (length xs) h e) (e ∙ sym (x .flow-long))
+
+  -- a part of the device's length leaves the whole row as long as it was
+  put-kept : (xs ys : List ℕ) (g : ℕ → ℕ) → ys ≡ build (intervalsOf (recordsOf l d)) g → length xs ≡ devices * l .intervals
+      → length (put xs (d * l .intervals) (d * l .intervals + l .intervals) ys) ≡ length xs
+  put-kept xs ys g e q =
+      length-put xs (d * l .intervals) (d * l .intervals + l .intervals) ys (omega arith) (part-end d devices (l .intervals) (length xs) h q)
+      (ap length e ∙ length-build (intervalsOf (recordsOf l d)) g ∙ row-long l devices x d h ∙ sym (add-sub-cancel-left (d * l .intervals) (l .intervals)))
+
+  pub rows-kept : (xs fs cs o f c : List ℕ) (a : Account) → Filled (recordsOf l d) o f c a
+      → length xs ≡ devices * l .intervals → length fs ≡ devices * l .intervals → length cs ≡ devices * l .intervals
+      → (length (put xs (d * l .intervals) (d * l .intervals + l .intervals) o) ≡ length xs)
+      × (length (put fs (d * l .intervals) (d * l .intervals + l .intervals) f) ≡ length fs)
+      × (length (put cs (d * l .intervals) (d * l .intervals + l .intervals) c) ≡ length cs)
+  rows-kept xs fs cs o f c a y p q r = (
+    put-kept xs o (outcomeAt (recordsOf l d)) (y .outcome-row) p,
+    put-kept fs f (flowUsedAt (recordsOf l d)) (y .flow-row) q,
+    put-kept cs c (contentUsedAt (recordsOf l d)) (y .content-row) r,
+  )
+
+  pub rows-written : (xs fs cs o f c : List ℕ) (a : Account) → Filled (recordsOf l d) o f c a
+      → Written l d xs fs cs (put xs (d * l .intervals) (d * l .intervals + l .intervals) o)
+      (put fs (d * l .intervals) (d * l .intervals + l .intervals) f) (put cs (d * l .intervals) (d * l .intervals + l .intervals) c) a
+  unfolding outcomePart flowPart contentPart
+  rows-written xs fs cs o f c a y =
+      record {
+        outcome-row = ap (put xs (d * l .intervals) (d * l .intervals + l .intervals)) (y .outcome-row ∙ whole (outcomeAt (recordsOf l d)));
+        flow-row = ap (put fs (d * l .intervals) (d * l .intervals + l .intervals)) (y .flow-row ∙ whole (flowUsedAt (recordsOf l d)));
+        content-row = ap (put cs (d * l .intervals) (d * l .intervals + l .intervals)) (y .content-row ∙ whole (contentUsedAt (recordsOf l d)));
+        account = y .account;
+      }
+    where
+      whole : (g : ℕ → ℕ) → build (intervalsOf (recordsOf l d)) g ≡ build (l .intervals) g
+      whole g = ap (λ (m : ℕ). build m g) (row-long l devices x d h)

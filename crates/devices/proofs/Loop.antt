@@ -1,7 +1,7 @@
 -- The loop over devices: rows joined up to device d, the rest as it was, and the totals up to there.
 -- Assumes nothing.
 use Prim.Native.Nat.{ℕ, zero, suc, _+_, _-_, _*_, _≤_, _<_}
-use mathlib.Core.Path.{_≡_, refl, sym, ap, _∙_, subst}
+use mathlib.Core.Path.{_≡_, refl, sym, ap, _∙_, subst, subst₂}
 use mathlib.Core.List.{List, [], _++_}
 use native.Mathlib.Nat.{add-sub-cancel-left, zero-mul, le-add-right}
 use native.Mathlib.Numerals.{add-one}
@@ -14,8 +14,8 @@ use Rattle.device.specs.Device.{accountOf, outcomeAt, flowUsedAt, contentUsedAt
 use Rattle.device.specs.declared.Account.{Account}
 use Rattle.devices.specs.declared.Totals.{Totals}
 use Rattle.devices.specs.Devices.{Lent, recordsOf, outcomePart, flowPart, contentPart, rowsOf, Sound, Written}
-use Rattle.devices.specs.Totals.{totalsOf, added, AllWritten}
-use Rattle.devices.proofs.Laws.{totals-more}
+use Rattle.devices.specs.Totals.{totalsOf, added, Room, AllWritten}
+use Rattle.devices.proofs.Laws.{totals-more, room-for}
 
 -- one row: joined up to device d, and as it was from there on
 pub record Row (n devices : ℕ) (g : ℕ → List ℕ) (old now : List ℕ) (d : ℕ) : Type 0 where
@@ -90,6 +90,11 @@ going-on l devices o₀ f₀ c₀ o f c o′ f′ c′ t t′ a d h x w e =
           ∙ sym (totals-more l devices (x .sound) d h)
           ∙ ap (totalsOf l) (sym (add-one d));
     }
+
+-- the totals so far leave room for this device's account
+pub going-room : (l : Lent) (devices : ℕ) (o₀ f₀ c₀ o f c : List ℕ) (t : Totals) (a : Account) (d : ℕ) → d < devices
+    → Going l devices o₀ f₀ c₀ o f c t d → a ≡ accountOf (recordsOf l d) → Room t a
+going-room l devices o₀ f₀ c₀ o f c t a d h x e = subst₂ Room (sym (x .totals)) (sym e) (room-for l devices (x .sound) d h)
 
 pub going-done : (l : Lent) (devices : ℕ) (o₀ f₀ c₀ o f c : List ℕ) (t : Totals) (d : ℕ) → devices ≤ d → Going l devices o₀ f₀ c₀ o f c t d
     → AllWritten l devices o f c t

@@ -1,6 +1,6 @@
 -- The last pass as a loop's invariant: the rows and sums after the first i intervals. Start, step and end.
 -- Assumes nothing.
-use Prim.Native.Nat.{ℕ, zero, suc, _+_, _*_, _≤_, _<_}
+use Prim.Native.Nat.{ℕ, zero, suc, _+_, _-_, _*_, _≤_, _<_}
 use mathlib.Core.Path.{_≡_, refl, sym, ap, ap₂, _∙_, subst}
 use mathlib.Core.Bool.{Bool, true, false}
 use mathlib.Core.List.{List, _++_}
@@ -157,6 +157,9 @@ module _ {h : Held} {n : ℕ} {old o f c counts : List ℕ} {methane i : ℕ} (x
   pub going-few : i < n → (e : Entry) → e ≡ entryAt h i → e .outcome < 10
   going-few l e q = subst (λ (k : ℕ). k < 10) (sym (ap (λ (y : Entry). y .outcome) q)) (outcome-of-ten h n (x .ready) i l)
 
+  pub going-slot : i < n → (e : Entry) → e ≡ entryAt h i → Fits w64 (e .outcome) × Fits w64 (e .outcome * 8)
+  going-slot l e q = let k : e .outcome < 10 = going-few l e q in (record { fits = omega arith }, record { fits = omega arith })
+
   pub going-more : i < n → (e : Entry) → e ≡ entryAt h i
       → Going h n old (set o i (e .outcome)) (set f i (e .flow)) (set c i (e .content)) (set counts (e .outcome) (getD counts (e .outcome) 0 + 1)) (methane + e .litres) (i + 1)
   going-more l e q =
@@ -183,17 +186,17 @@ module _ {h : Held} {n : ℕ} {old o f c counts : List ℕ} {methane i : ℕ} (x
       (going-more l e q))
 
   -- the sums so far leave room for one more interval
-  pub methane-room : i < n → (e : Entry) → e ≡ entryAt h i → methane + e .litres ≤ 35137 * litresMost
+  pub methane-room : i < n → (e : Entry) → e ≡ entryAt h i → Fits w64 (methane + e .litres)
   methane-room l e q =
       let a : sumTo i (λ k. entryAt h k .litres) ≤ i * litresMost = methane-to h n (x .ready) i (x .within) in
       let b : methane ≡ sumTo i (λ k. entryAt h k .litres) = x .sum in
       let m : n ≤ 35136 = x .ready .few in
       let u : e .litres ≡ entryAt h i .litres = ap (λ (y : Entry). y .litres) q in
       let v : entryAt h i .litres ≤ litresMost = litres-of-entry h n (x .ready) i l in
-      omega arith
+      record { fits = omega arith }
 
   -- whichever count it is
-  pub slot-fits : (k v : ℕ) → k < 10 → v ≤ 1 → Fits w64 (getD counts k 0 + v)
+  pub slot-fits : (k v : ℕ) → k < 10 → v < 2 → Fits w64 (getD counts k 0 + v)
   slot-fits k v l z =
       let a : countOf i (λ m. entryAt h m .outcome) k ≤ i * 1 = count-most i (λ m. entryAt h m .outcome) k in
       let b : getD counts k 0 ≡ countOf i (λ m. entryAt h m .outcome) k = x .each k l in
@@ -234,6 +237,25 @@ module _ {h : Held} {n : ℕ} {old o f c counts : List ℕ} {methane i : ℕ} (x
           x .each j w
           ∙ ap (λ (m : ℕ). countOf m (λ k. entryAt h k .outcome) j) at
           ∙ sym (getD-build 10 (countOf (length (h .flow)) (λ k. entryAt h k .outcome)) j 0 w))
+
+  -- addresses within the rows, and the next turn
+  pub index-fits : i < n → Fits w64 (i * 2) × Fits w64 (i * 4)
+  index-fits l = let m : n ≤ 35136 = x .ready .few in (record { fits = omega arith }, record { fits = omega arith })
+
+  pub next-fits : i < n → Fits w64 (i + 1)
+  next-fits l = let m : n ≤ 35136 = x .ready .few in record { fits = omega arith }
+
+  pub turns-less : i < n → n - (i + 1) < n - i
+  turns-less l = omega arith
+
+  pub inside-series : i < n → (i < length (h .flow)) × (i < length (h .content)) × (i < length (h .temp)) × (i < length (h .press)) × (i < length (h .status))
+  inside-series l = (
+    subst (λ (m : ℕ). i < m) (sym (x .ready .flows)) l,
+    subst (λ (m : ℕ). i < m) (sym (x .ready .contents)) l,
+    subst (λ (m : ℕ). i < m) (sym (x .ready .temps)) l,
+    subst (λ (m : ℕ). i < m) (sym (x .ready .presses)) l,
+    subst (λ (m : ℕ). i < m) (sym (x .ready .statuses)) l,
+  )
 
   pub inside-rows : i < n → (i < length o) × (i < length f) × (i < length c)
   inside-rows l =

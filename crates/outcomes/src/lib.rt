@@ -196,28 +196,28 @@ pub fn finish(
     let mut methane = 0;
     let mut i = 0;
     while i < n {
-        if all_measured(flow[i], content[i], temp[i], press[i], status[i]) {
+        let f = flow[i];
+        let c = content[i];
+        let t = temp[i];
+        let p = press[i];
+        let code = status[i];
+        let f_held = flow_used[i];
+        let c_held = content_used[i];
+        if all_measured(f, c, t, p, code) {
             // The commonest interval: its values stand in the rows already.
-            let litres = volume::methane_litres(flow_used[i], content_used[i], temp[i], press[i]);
+            let litres = volume::methane_litres(f_held, c_held, t, p);
             outcomes[i] = 0;
-            counts[0] = counts[0] + 1;
+            counts[0] += 1;
             methane = methane + litres;
             i += 1;
         } else {
-            let e = settle(
-                flow[i],
-                content[i],
-                temp[i],
-                press[i],
-                status[i],
-                flow_used[i],
-                content_used[i],
-            );
+            let e = settle(f, c, t, p, code, f_held, c_held);
             let o = e.outcome;
             outcomes[i] = o;
             flow_used[i] = e.flow;
             content_used[i] = e.content;
-            counts[o as usize] = counts[o as usize] + 1;
+            let k = o as usize;
+            counts[k] += 1;
             methane = methane + e.litres;
             i += 1;
         }

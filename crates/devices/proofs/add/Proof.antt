@@ -1,12 +1,12 @@
-use Rattle.devices.proofs.Laws.{added-is}
+use Rattle.devices.proofs.Laws.{added-is, Sums, sums-fit}
 use native.Mathlib.Omega.{arith}
 use mathlib.Core.Path.{_≡_, refl, sym, ap, _∙_}
 use Prim.Native.Nat.{ℕ, _+_}
+use lib.Dec.{lit<}
 use lib.ListN.{getD}
 use Rattle.balance.specs.Balance.{baselineMg, carbonDioxideMg, uncombustedMg}
 use Rattle.balance.proofs.Laws.{carbon-le}
 use Rattle.devices.specs.Totals.{added}
-use borrow.Author.Needs.{needs}
 use Rattle.devices.proofs.add.Statement.{statement}
 use Rattle.devices.proofs.add.Tie as tie
 use Rattle.devices.proofs.add.Reads as reads
@@ -14,113 +14,116 @@ use Rattle.devices.proofs.add.Lts as lts
 use Rattle.balance.proofs.carbon_dioxide_mg.Reads as carbon-dioxide-mg-reads
 use Rattle.balance.proofs.methane_mg.Reads as methane-mg-reads
 
+fit : (s : tie.Start) → Sums (s .args .t) (s .args .a)
+fit s = sums-fit (s .args .t) (s .args .a) (s .pre)
+
 -- src/lib.rt:28:20
 array-read-replaced : tie.Need-array-read-replaced
-array-read-replaced c = search needs
+array-read-replaced c = lit< tt
 
 -- src/lib.rt:28:32
 array-read-replaced-2 : tie.Need-array-read-replaced-2
-array-read-replaced-2 c = search needs
+array-read-replaced-2 c = lit< tt
 
 -- src/lib.rt:28:20
 add-replaced : tie.Need-add-replaced
-add-replaced c = omega (arith, c .before .pre .count-most 0, c .before .pre .count-most 1, c .before .pre .count-most 2, c .before .pre .count-most 3, c .before .pre .count-most 4, c .before .pre .count-most 5, c .before .pre .count-most 6, c .before .pre .count-most 7, c .before .pre .count-most 8, c .before .pre .count-most 9)
+add-replaced c = fit (c .before) .replaced-two
 
 -- src/lib.rt:29:20
 array-read-excluded : tie.Need-array-read-excluded
-array-read-excluded c = search needs
+array-read-excluded c = lit< tt
 
 -- src/lib.rt:30:11
 array-read-excluded-2 : tie.Need-array-read-excluded-2
-array-read-excluded-2 c = search needs
+array-read-excluded-2 c = lit< tt
 
 -- src/lib.rt:29:20
 add-excluded : tie.Need-add-excluded
-add-excluded c = omega (arith, c .before .pre .count-most 0, c .before .pre .count-most 1, c .before .pre .count-most 2, c .before .pre .count-most 3, c .before .pre .count-most 4, c .before .pre .count-most 5, c .before .pre .count-most 6, c .before .pre .count-most 7, c .before .pre .count-most 8, c .before .pre .count-most 9)
+add-excluded c = fit (c .before) .excluded-to-4
 
 -- src/lib.rt:31:11
 array-read-excluded-3 : tie.Need-array-read-excluded-3
-array-read-excluded-3 c = search needs
+array-read-excluded-3 c = lit< tt
 
 -- src/lib.rt:29:20
 add-excluded-2 : tie.Need-add-excluded-2
-add-excluded-2 c = omega (arith, c .before .pre .count-most 0, c .before .pre .count-most 1, c .before .pre .count-most 2, c .before .pre .count-most 3, c .before .pre .count-most 4, c .before .pre .count-most 5, c .before .pre .count-most 6, c .before .pre .count-most 7, c .before .pre .count-most 8, c .before .pre .count-most 9)
+add-excluded-2 c = fit (c .before) .excluded-to-5
 
 -- src/lib.rt:32:11
 array-read-excluded-4 : tie.Need-array-read-excluded-4
-array-read-excluded-4 c = search needs
+array-read-excluded-4 c = lit< tt
 
 -- src/lib.rt:29:20
 add-excluded-3 : tie.Need-add-excluded-3
-add-excluded-3 c = omega (arith, c .before .pre .count-most 0, c .before .pre .count-most 1, c .before .pre .count-most 2, c .before .pre .count-most 3, c .before .pre .count-most 4, c .before .pre .count-most 5, c .before .pre .count-most 6, c .before .pre .count-most 7, c .before .pre .count-most 8, c .before .pre .count-most 9)
+add-excluded-3 c = fit (c .before) .excluded-to-6
 
 -- src/lib.rt:33:11
 array-read-excluded-5 : tie.Need-array-read-excluded-5
-array-read-excluded-5 c = search needs
+array-read-excluded-5 c = lit< tt
 
 -- src/lib.rt:29:20
 add-excluded-4 : tie.Need-add-excluded-4
-add-excluded-4 c = omega (arith, c .before .pre .count-most 0, c .before .pre .count-most 1, c .before .pre .count-most 2, c .before .pre .count-most 3, c .before .pre .count-most 4, c .before .pre .count-most 5, c .before .pre .count-most 6, c .before .pre .count-most 7, c .before .pre .count-most 8, c .before .pre .count-most 9)
+add-excluded-4 c = fit (c .before) .excluded-to-7
 
 -- src/lib.rt:34:11
 array-read-excluded-6 : tie.Need-array-read-excluded-6
-array-read-excluded-6 c = search needs
+array-read-excluded-6 c = lit< tt
 
 -- src/lib.rt:29:20
 add-excluded-5 : tie.Need-add-excluded-5
-add-excluded-5 c = omega (arith, c .before .pre .count-most 0, c .before .pre .count-most 1, c .before .pre .count-most 2, c .before .pre .count-most 3, c .before .pre .count-most 4, c .before .pre .count-most 5, c .before .pre .count-most 6, c .before .pre .count-most 7, c .before .pre .count-most 8, c .before .pre .count-most 9)
+add-excluded-5 c = fit (c .before) .excluded-to-8
 
 -- src/lib.rt:35:11
 array-read-excluded-7 : tie.Need-array-read-excluded-7
-array-read-excluded-7 c = search needs
+array-read-excluded-7 c = lit< tt
 
 -- src/lib.rt:29:20
 add-excluded-6 : tie.Need-add-excluded-6
-add-excluded-6 c = omega (arith, c .before .pre .count-most 0, c .before .pre .count-most 1, c .before .pre .count-most 2, c .before .pre .count-most 3, c .before .pre .count-most 4, c .before .pre .count-most 5, c .before .pre .count-most 6, c .before .pre .count-most 7, c .before .pre .count-most 8, c .before .pre .count-most 9)
+add-excluded-6 c = fit (c .before) .excluded-to-9
 
 -- src/lib.rt:37:31
 array-read-t8 : tie.Need-array-read-t8
-array-read-t8 c = search needs
+array-read-t8 c = lit< tt
 
 -- src/lib.rt:37:43
 array-read-t35 : tie.Need-array-read-t35
-array-read-t35 c = search needs
+array-read-t35 c = lit< tt
 
 -- src/lib.rt:37:31
 add-t32 : tie.Need-add-t32
-add-t32 c = omega (arith, c .before .pre .count-most 0, c .before .pre .count-most 1, c .before .pre .count-most 2, c .before .pre .count-most 3, c .before .pre .count-most 4, c .before .pre .count-most 5, c .before .pre .count-most 6, c .before .pre .count-most 7, c .before .pre .count-most 8, c .before .pre .count-most 9)
+add-t32 c = omega (arith, c .before .pre .count-most 0, c .before .pre .count-most 1)
 
 -- src/lib.rt:37:55
 array-read-t31 : tie.Need-array-read-t31
-array-read-t31 c = search needs
+array-read-t31 c = lit< tt
 
 -- src/lib.rt:37:31
 add-t28 : tie.Need-add-t28
-add-t28 c = omega (arith, c .before .pre .count-most 0, c .before .pre .count-most 1, c .before .pre .count-most 2, c .before .pre .count-most 3, c .before .pre .count-most 4, c .before .pre .count-most 5, c .before .pre .count-most 6, c .before .pre .count-most 7, c .before .pre .count-most 8, c .before .pre .count-most 9)
+add-t28 c = omega (arith, c .before .pre .count-most 0, c .before .pre .count-most 1, c .before .pre .count-most 2)
 
 -- src/lib.rt:37:18
 add-t27 : tie.Need-add-t27
-add-t27 c = omega (arith, c .before .before .pre .count-most 0, c .before .before .pre .count-most 1, c .before .before .pre .count-most 2, c .before .before .pre .count-most 3, c .before .before .pre .count-most 4, c .before .before .pre .count-most 5, c .before .before .pre .count-most 6, c .before .before .pre .count-most 7, c .before .before .pre .count-most 8, c .before .before .pre .count-most 9, c .before .before .pre .counted-room)
+add-t27 c = omega (arith, c .before .before .pre .count-most 0, c .before .before .pre .count-most 1, c .before .before .pre .count-most 2, c .before .before .pre .counted-room)
 
 -- src/lib.rt:38:19
 add-t24 : tie.Need-add-t24
-add-t24 c = omega (arith, c .before .before .before .pre .count-most 0, c .before .before .before .pre .count-most 1, c .before .before .before .pre .count-most 2, c .before .before .before .pre .count-most 3, c .before .before .before .pre .count-most 4, c .before .before .before .pre .count-most 5, c .before .before .before .pre .count-most 6, c .before .before .before .pre .count-most 7, c .before .before .before .pre .count-most 8, c .before .before .before .pre .count-most 9, c .before .before .before .pre .replaced-room)
+add-t24 c = fit (c .before .before .before) .replaced
 
 -- src/lib.rt:39:19
 add-t23 : tie.Need-add-t23
-add-t23 c = omega (arith, c .before .before .before .before .pre .count-most 0, c .before .before .before .before .pre .count-most 1, c .before .before .before .before .pre .count-most 2, c .before .before .before .before .pre .count-most 3, c .before .before .before .before .pre .count-most 4, c .before .before .before .before .pre .count-most 5, c .before .before .before .before .pre .count-most 6, c .before .before .before .before .pre .count-most 7, c .before .before .before .before .pre .count-most 8, c .before .before .before .before .pre .count-most 9, c .before .before .before .before .pre .excluded-room)
+add-t23 c = fit (c .before .before .before .before) .excluded
 
 -- src/lib.rt:40:18
 add-t20 : tie.Need-add-t20
-add-t20 c = omega (arith, c .before .before .before .before .before .before .pre .methane-most, c .before .before .before .before .before .before .pre .methane-room)
+add-t20 c = fit (c .before .before .before .before .before .before) .methane
 
 -- src/lib.rt:41:20
 add-t19 : tie.Need-add-t19
-add-t19 c = omega (arith, c .before .before .before .before .before .before .before .before .pre .destroyed-most, c .before .before .before .before .before .before .before .before .pre .destroyed-room)
+add-t19 c = fit (c .before .before .before .before .before .before .before .before) .destroyed
 
 -- src/lib.rt:42:22
 add-t16 : tie.Need-add-t16
-add-t16 c = omega (arith, c .before .before .before .before .before .before .before .before .before .before .pre .uncombusted-most, c .before .before .before .before .before .before .before .before .before .before .pre .uncombusted-room)
+add-t16 c = fit (c .before .before .before .before .before .before .before .before .before .before) .uncombusted
 
 -- src/lib.rt:43:38
 methane-mg-requires : tie.Need-methane-mg-requires

@@ -1,12 +1,7 @@
 use Prim.Native.Nat.{ℕ, _+_, _*_, _-_, _≤_}
-use mathlib.Core.Path.{_≡_, refl, sym, ap, _∙_, subst, subst₂}
+use mathlib.Core.Path.{_≡_, refl, sym, ap, _∙_}
 use native.Mathlib.Omega.{arith}
-use Rattle.devices.specs.declared.Totals.{Totals}
-use Rattle.device.specs.declared.Account.{Account}
-use Rattle.devices.specs.Totals.{Room}
-use Rattle.devices.proofs.Laws.{room-for}
-use Rattle.devices.proofs.Loop.{Going, going-start, going-on, going-done, totals-none}
-use borrow.Author.Needs.{needs}
+use Rattle.devices.proofs.Loop.{Going, going-start, going-on, going-room, going-done, totals-none}
 use Rattle.devices.proofs.fill_rows.Statement.{statement}
 use Rattle.devices.proofs.fill_rows.Tie as tie
 use Rattle.devices.proofs.fill_rows.Reads as reads
@@ -30,7 +25,7 @@ one-requires c κs = let v = c .before .before .before .before .loop .inv in (v 
 
 -- src/lib.rt:200:9
 add-requires : tie.Need-add-requires Inv-loop μ-loop
-add-requires c κs = let v = c .before .before .before .before .before .before .before .before .before .before .before .loop .inv in subst₂ (λ (t : Totals) (a : Account). Room t a) (sym (v .totals)) (sym (c .before .before .before .before .before .before .one .ensures .account)) (room-for _ _ (v .sound) _ (c .before .before .before .before .before .before .before .before .before .before .loop-test .taken))
+add-requires c κs = going-room _ _ _ _ _ _ _ _ _ (c .before .before .before .before .before .before .one .result) _ (c .before .before .before .before .before .before .before .before .before .before .loop-test .taken) (c .before .before .before .before .before .before .before .before .before .before .before .loop .inv) (c .before .before .before .before .before .before .one .ensures .account)
 
 -- src/lib.rt:201:9
 add-d : tie.Need-add-d Inv-loop μ-loop

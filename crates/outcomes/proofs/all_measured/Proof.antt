@@ -4,7 +4,6 @@ use mathlib.Core.Path.{_≡_, sym, ap, _∙_}
 use mathlib.Core.Bool.{Bool}
 use lib.IntN.{ℤ}
 use mir.Facts.{toZ-ofZ}
-use borrow.Author.Needs.{needs}
 use borrow.Author.Tests.{eq-eqb, ne-eqb}
 use Rattle.rows.specs.Rows.{either}
 use Rattle.protocol.specs.Ranges.{tempMissing, pressMissing}
@@ -28,7 +27,7 @@ unfolding allMeasured
 returns-2 c = simp (ne-eqb _ 0 (c .before .if1 .left), eq-eqb _ 3 (c .if2 .taken))
 
 lacks-requires : tie.Need-lacks-requires
-lacks-requires c κs = search needs
+lacks-requires c κs = tt
 
 returns-3 : tie.Need-returns-3
 unfolding allMeasured

@@ -1,12 +1,11 @@
 use mathlib.Core.Path.{sym, ap, _∙_}
 use mir.Facts.{toZ-ofZ}
 use Rattle.protocol.specs.Ranges.{tempMissing}
-use borrow.Author.Needs.{needs}
 use Rattle.outcomes.proofs.lacks.Statement.{statement}
 use Rattle.outcomes.proofs.lacks.Tie as tie
 
 temp-missing-requires : tie.Need-temp-missing-requires
-temp-missing-requires c κs = search needs
+temp-missing-requires c κs = tt
 
 returns : tie.Need-returns
 returns c = simp (sym (ap tempMissing (toZ-ofZ (c .before .before .fits .temp))) ∙ sym (c .before .temp-missing .ensures) ∙ c .if1 .taken)

@@ -1,6 +1,5 @@
 use borrow.Author.Tests.{eq-eqb, ne-eqb}
 use Rattle.outcomes.specs.Outcomes.{outcomeOf}
-use borrow.Author.Needs.{needs}
 use Rattle.outcomes.proofs.outcome.Statement.{statement}
 use Rattle.outcomes.proofs.outcome.Tie as tie
 
@@ -17,14 +16,14 @@ unfolding outcomeOf
 returns-3 c = simp (ne-eqb _ 0 (c .before .before .if1 .left), ne-eqb _ 3 (c .before .if2 .left), c .if3 .taken)
 
 replaced-requires : tie.Need-replaced-requires
-replaced-requires c κs = search needs
+replaced-requires c κs = tt
 
 returns-4 : tie.Need-returns-4
 unfolding outcomeOf
 returns-4 c = simp (ne-eqb _ 0 (c .before .before .before .before .if1 .left), ne-eqb _ 3 (c .before .before .before .if2 .left), c .before .before .if3 .left, c .before .if4 .taken) (c .replaced .ensures)
 
 replaced-requires-2 : tie.Need-replaced-requires-2
-replaced-requires-2 c κs = search needs
+replaced-requires-2 c κs = tt
 
 returns-5 : tie.Need-returns-5
 unfolding outcomeOf

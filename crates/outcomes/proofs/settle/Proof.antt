@@ -1,14 +1,14 @@
 use mathlib.Core.Path.{_≡_, sym, ap, _∙_, subst}
+use lib.Dec.{eqb}
 use lib.IntN.{ℤ}
 use native.Mathlib.Omega.{arith}
 use mir.Facts.{toZ-ofZ}
 use Rattle.rows.specs.Rows.{either}
-use Rattle.protocol.specs.Ranges.{tempMissing, pressMissing}
+use Rattle.protocol.specs.Ranges.{mark, tempMissing, pressMissing}
 use Prim.Native.Nat.{ℕ, _<_}
 use Rattle.volume.specs.Volume.{methaneLitres, Inside}
-use Rattle.outcomes.specs.Outcomes.{heldOutcome}
+use Rattle.outcomes.specs.Outcomes.{heldOutcome, outcomeOf}
 use Rattle.outcomes.proofs.Laws.{outcomeFor, counted-inside, counted-entry, excluded-entry}
-use borrow.Author.Needs.{needs}
 use Rattle.outcomes.proofs.settle.Statement.{statement}
 use Rattle.outcomes.proofs.settle.Tie as tie
 
@@ -20,19 +20,19 @@ got c =
     c .before .lacks .ensures ∙ ap (λ (z : ℤ). either (tempMissing z) (pressMissing (a .press))) (toZ-ofZ (c .before .before .before .before .fits .temp)) in
     let f : c .before .before .before .held-outcome .result ≡ heldOutcome 1 (a .flow-held) = c .before .before .before .held-outcome .ensures in
     let g : c .before .before .held-outcome2 .result ≡ heldOutcome 2 (a .content-held) = c .before .before .held-outcome2 .ensures in
-    cc (c .outcome .ensures)
+    c .outcome .ensures ∙ (λ i. outcomeOf (a .status) (l i) (eqb (a .flow) mark) (eqb (a .content) mark) (f i) (g i))
 
 held-outcome-requires : tie.Need-held-outcome-requires
-held-outcome-requires c κs = search needs
+held-outcome-requires c κs = tt
 
 held-outcome-requires-2 : tie.Need-held-outcome-requires-2
-held-outcome-requires-2 c κs = search needs
+held-outcome-requires-2 c κs = tt
 
 lacks-requires : tie.Need-lacks-requires
-lacks-requires c κs = search needs
+lacks-requires c κs = tt
 
 outcome-requires : tie.Need-outcome-requires
-outcome-requires c κs = search needs
+outcome-requires c κs = tt
 
 methane-litres-requires : tie.Need-methane-litres-requires
 methane-litres-requires c κs = let a = c .before .before .before .before .before .args in
