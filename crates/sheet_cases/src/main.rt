@@ -17,7 +17,7 @@ fn print_line(key: &[u8], v: u64)
     requires { ⌜ length (now key) ≤ 32 ⌝ }
 {
     let mut buf = [0u8; 64];
-    let n = text::put_line(&mut buf, 0, key, v);
+    let n = writing::put_line(&mut buf, 0, key, v);
     print(&buf, n);
 }
 

@@ -95,14 +95,14 @@ fn put_head(f: Figures, buf: &mut [u8]) -> usize
     requires { ⌜ InRange f ⌝ }
     ensures { λ r. ⌜ Put (now (buf .entry)) 0 (linesOf (take 8 schema) (take 8 (valuesOf f))) (now (buf .exit)) r ⌝ }
 {
-    let p1 = text::put_line(buf, 0, b"intervals=", f.intervals);
-    let p2 = text::put_line(buf, p1, b"devices=", f.devices);
-    let p3 = text::put_line(buf, p2, b"counted=", f.counted);
-    let p4 = text::put_line(buf, p3, b"replaced=", f.replaced);
-    let p5 = text::put_line(buf, p4, b"excluded=", f.excluded);
-    let p6 = text::put_line(buf, p5, b"methane_l=", f.methane_l);
-    let p7 = text::put_line(buf, p6, b"destroyed_l=", f.destroyed_l);
-    text::put_line(buf, p7, b"uncombusted_l=", f.uncombusted_l)
+    let p1 = writing::put_line(buf, 0, b"intervals=", f.intervals);
+    let p2 = writing::put_line(buf, p1, b"devices=", f.devices);
+    let p3 = writing::put_line(buf, p2, b"counted=", f.counted);
+    let p4 = writing::put_line(buf, p3, b"replaced=", f.replaced);
+    let p5 = writing::put_line(buf, p4, b"excluded=", f.excluded);
+    let p6 = writing::put_line(buf, p5, b"methane_l=", f.methane_l);
+    let p7 = writing::put_line(buf, p6, b"destroyed_l=", f.destroyed_l);
+    writing::put_line(buf, p7, b"uncombusted_l=", f.uncombusted_l)
 }
 
 // The sheet's lines into the buffer as far as it goes, and their length whatever the buffer's.
@@ -110,13 +110,13 @@ fn put_sheet(f: Figures, buf: &mut [u8]) -> usize
     ensures { λ r. ⌜ Put (now (buf .entry)) 0 (textOf f) (now (buf .exit)) r × (length (textOf f) ≤ 465) ⌝ }
 {
     let p8 = put_head(f, buf);
-    let p9 = text::put_line(buf, p8, b"baseline_mg=", f.baseline_mg);
-    let p10 = text::put_line(buf, p9, b"co2_mg=", f.co2_mg);
-    let p11 = text::put_line(buf, p10, b"uncombusted_mg=", f.uncombusted_mg);
-    let p12 = text::put_line(buf, p11, b"fuel_mg=", f.fuel_mg);
-    let p13 = text::put_signed_line(buf, p12, b"reduction_mg=", f.reduction_mg);
-    let p14 = text::put_signed_line(buf, p13, b"tonnes=", f.tonnes);
-    text::put_line(buf, p14, b"credits=", f.credits)
+    let p9 = writing::put_line(buf, p8, b"baseline_mg=", f.baseline_mg);
+    let p10 = writing::put_line(buf, p9, b"co2_mg=", f.co2_mg);
+    let p11 = writing::put_line(buf, p10, b"uncombusted_mg=", f.uncombusted_mg);
+    let p12 = writing::put_line(buf, p11, b"fuel_mg=", f.fuel_mg);
+    let p13 = writing::put_signed_line(buf, p12, b"reduction_mg=", f.reduction_mg);
+    let p14 = writing::put_signed_line(buf, p13, b"tonnes=", f.tonnes);
+    writing::put_line(buf, p14, b"credits=", f.credits)
 }
 
 // Writes the sheet. Rules out: a byte after the sheet's end changed; TooShort with a part of the sheet written.

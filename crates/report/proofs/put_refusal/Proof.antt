@@ -11,7 +11,7 @@ use Rattle.report.proofs.put_refusal.Statement.{statement}
 use Rattle.report.proofs.put_refusal.Tie as tie
 use Rattle.report.proofs.put_refusal.Reads as reads
 use Rattle.report.proofs.put_refusal.Lts as lts
-use Rattle.text.proofs.put_line.Reads as put-line-reads
+use Rattle.writing.proofs.put_line.Reads as put-line-reads
 
 -- src/lib.rt:19:36
 slice-aggregate-put-line : tie.Need-slice-aggregate-put-line

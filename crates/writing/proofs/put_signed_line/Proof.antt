@@ -1,4 +1,4 @@
--- `text::put_signed_line` meets its contract: the parts joined. Assumes nothing.
+-- `writing::put_signed_line` meets its contract: the parts joined. Assumes nothing.
 use Prim.Native.Nat.{_+_, _^_, _<_}
 use mathlib.Core.Path.{sym, subst}
 use native.Mathlib.Omega.{arith}
@@ -7,12 +7,12 @@ use lib.ListN.{length}
 use denote.Ref.{now}
 use mir.Syntax.{w64}
 use mir.ValLaws.{toZ-ofZ}
 use Rattle.text.specs.Decimal.{decimal}
 use Rattle.text.specs.Answer.{Put}
 use Rattle.text.proofs.Writing.{line-length, put-line-parts}
 use borrow.Author.Needs.{needs}
-use Rattle.text.proofs.put_signed_line.Statement.{statement}
-use Rattle.text.proofs.put_signed_line.Tie as tie
+use Rattle.writing.proofs.put_signed_line.Statement.{statement}
+use Rattle.writing.proofs.put_signed_line.Tie as tie
 
 put-bytes-requires : tie.Need-put-bytes-requires
 put-bytes-requires c κs = omega (arith, line-length (now (c .before .before .before .args .key)) (c .before .before .before .args .z), c .before .before .before .pre)

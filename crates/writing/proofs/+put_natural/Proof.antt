@@ -1,19 +1,19 @@
--- `text::put_natural` meets its contract, by the number of which it writes the digits. Assumes nothing.
+-- `writing::put_natural` meets its contract, by the number of which it writes the digits. Assumes nothing.
 use mathlib.Core.Path.{_∙_}
 use denote.Ref.{now}
 use Rattle.text.proofs.Decimals.{digits}
 use Rattle.text.proofs.Writing.{put-digit, put-digits, digits-room}
 use native.Mathlib.Omega.{arith}
 use borrow.Author.Needs.{needs}
 use Prim.Native.Nat.{ℕ, _<_}
 use borrow.Fn.Kinds.{In}
 use borrow.Fn.PlainCycle.{Measures, is, falls, and}
-use Rattle.text.proofs.put_natural.Reads as put-natural
-use Rattle.text.proofs.put_natural.Kinds as put-natural-kinds
-use Rattle.text.proofs.+put_natural.Lts-put_natural as put-natural-lts
-use Rattle.text.proofs.put.Reads as put-reads
-use Rattle.text.proofs.+put_natural.{statement}
-use Rattle.text.proofs.+put_natural.Tie.{close}
+use Rattle.writing.proofs.put_natural.Reads as put-natural
+use Rattle.writing.proofs.put_natural.Kinds as put-natural-kinds
+use Rattle.writing.proofs.+put_natural.Lts-put_natural as put-natural-lts
+use Rattle.writing.proofs.put.Reads as put-reads
+use Rattle.writing.proofs.+put_natural.{statement}
+use Rattle.writing.proofs.+put_natural.Tie.{close}
 
 abbrev μ-put-natural : Measures 1 put-natural-kinds.ps ℕ
 μ-put-natural κs a = a .1 .1 .0

@@ -1,4 +1,4 @@
--- `text::put_whole` meets its contract, by the number's sign. Assumes nothing.
+-- `writing::put_whole` meets its contract, by the number's sign. Assumes nothing.
 use Prim.Native.Nat.{_+_, _^_, _<_}
 use mathlib.Core.Path.{_∙_, sym, subst}
 use native.Mathlib.Omega.{arith}
@@ -10,11 +10,11 @@ use mir.Syntax.{w64}
 use mir.Val.{SFits, toZ, ofZ}
 use mir.ValLaws.{toZ-ofZ}
 use denote.Ref.{now}
 use Rattle.text.specs.Decimal.{decimal}
 use Rattle.text.specs.Answer.{Put}
 use Rattle.text.proofs.Signs.{found-negative, found-positive, positive-fits, some-digits, room-minus, room-fits, put-minus}
-use Rattle.text.proofs.put_whole.Statement.{statement}
-use Rattle.text.proofs.put_whole.Tie as tie
+use Rattle.writing.proofs.put_whole.Statement.{statement}
+use Rattle.writing.proofs.put_whole.Tie as tie
 
 put-requires : tie.Need-put-requires
 put-requires c κs = tt

@@ -1,4 +1,4 @@
--- `text::put_bytes` meets its contract. The invariant: the first i bytes of w are written. Assumes nothing.
+-- `writing::put_bytes` meets its contract. The invariant: the first i bytes of w are written. Assumes nothing.
 use Prim.Native.Nat.{ℕ, _+_, _-_, _^_, _≤_, _<_}
 use mathlib.Core.Path.{_≡_, _∙_, ap, refl}
 use native.Mathlib.Omega.{arith}
@@ -6,9 +6,9 @@ use borrow.Author.Needs.{needs}
 use lib.ListN.{length, take}
 use lib.Seq.{sets, length-sets, take-all}
 use denote.Ref.{now}
 use Rattle.text.proofs.Writing.{put-step}
-use Rattle.text.proofs.put_bytes.Statement.{statement}
-use Rattle.text.proofs.put_bytes.Tie as tie
+use Rattle.writing.proofs.put_bytes.Statement.{statement}
+use Rattle.writing.proofs.put_bytes.Tie as tie
 
 abbrev Inv-loop : tie.InvT-loop
 Inv-loop buf₀ at w i₀ buf i = (i ≤ length w) × (at + length w < 2 ^ 64) × (buf ≡ sets buf₀ at (take i w))

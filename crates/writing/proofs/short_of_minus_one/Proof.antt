@@ -1,8 +1,8 @@
--- `text::short_of_minus_one` meets its contract. Assumes nothing.
+-- `writing::short_of_minus_one` meets its contract. Assumes nothing.
 use native.Mathlib.Omega.{arith}
 use Rattle.text.proofs.Signs.{less-fits, less-is, negative-is}
-use Rattle.text.proofs.short_of_minus_one.Statement.{statement}
-use Rattle.text.proofs.short_of_minus_one.Tie as tie
+use Rattle.writing.proofs.short_of_minus_one.Statement.{statement}
+use Rattle.writing.proofs.short_of_minus_one.Tie as tie
 
 sub-result : tie.Need-sub-result
 sub-result c = less-fits (c .args .z) (c .pre) (c .fits .z)

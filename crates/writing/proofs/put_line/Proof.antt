@@ -1,12 +1,12 @@
--- `text::put_line` meets its contract: the parts joined. Assumes nothing.
+-- `writing::put_line` meets its contract: the parts joined. Assumes nothing.
 use native.Mathlib.Omega.{arith}
 use lib.IntN.{pos}
 use lib.ListN.{length}
 use denote.Ref.{now}
 use Rattle.text.proofs.Writing.{line-length, put-line-parts}
 use borrow.Author.Needs.{needs}
-use Rattle.text.proofs.put_line.Statement.{statement}
-use Rattle.text.proofs.put_line.Tie as tie
+use Rattle.writing.proofs.put_line.Statement.{statement}
+use Rattle.writing.proofs.put_line.Tie as tie
 
 put-bytes-requires : tie.Need-put-bytes-requires
 put-bytes-requires c κs = omega (arith, line-length (now (c .before .before .before .args .key)) (pos (c .before .before .before .args .v)), c .before .before .before .pre)

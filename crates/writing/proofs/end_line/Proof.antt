@@ -1,10 +1,10 @@
--- `text::end_line` meets its contract. Assumes nothing.
+-- `writing::end_line` meets its contract. Assumes nothing.
 use native.Mathlib.Omega.{arith}
 use borrow.Author.Needs.{needs}
 use denote.Ref.{now}
 use Rattle.text.proofs.Writing.{put-one}
-use Rattle.text.proofs.end_line.Statement.{statement}
-use Rattle.text.proofs.end_line.Tie as tie
+use Rattle.writing.proofs.end_line.Statement.{statement}
+use Rattle.writing.proofs.end_line.Tie as tie
 
 add-stop : tie.Need-add-stop
 add-stop c = omega arith

@@ -1,10 +1,10 @@
--- `text::put` meets its contract: past the end `set` changes nothing. Assumes nothing.
+-- `writing::put` meets its contract: past the end `set` changes nothing. Assumes nothing.
 use mathlib.Core.Path.{sym}
 use borrow.Author.Needs.{needs}
 use lib.Seq.{set-out}
 use denote.Ref.{now}
-use Rattle.text.proofs.put.Statement.{statement}
-use Rattle.text.proofs.put.Tie as tie
+use Rattle.writing.proofs.put.Statement.{statement}
+use Rattle.writing.proofs.put.Tie as tie
 
 slice-write-buf : tie.Need-slice-write-buf
 slice-write-buf c = search needs
