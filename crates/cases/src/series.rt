@@ -2,98 +2,82 @@
 ghost use Prim.Native.Nat.{_≤_, _<_};
 use crate::tokens;
 
-// How many entries each array of the program has: one more than a device of a year.
+// How many entries a row has at most: one more than a device of a year.
 pub const ENTRIES: usize = 35137;
+
+// Six rows of 32 bits stand one after the other in one array, and two of 16 bits in another.
+pub const WORDS: usize = 210822;
+
+pub const HALVES: usize = 70274;
 
 pub struct Row {
     pub len: usize,
     pub next: usize,
 }
 
-fn least(a: usize, b: usize) -> usize {
+fn least(a: usize, b: usize) -> usize
+    ensures { λ r. ⌜ r ≤ b ⌝ }
+{
     if a < b { a } else { b }
 }
 
-// Where a run from i ends: inside the row, and past i.
-fn run_end(i: usize, times: usize, len: usize) -> usize
-    requires { ⌜ i < len ⌝ }
-    ensures { λ r. ⌜ (i < r) × (r ≤ len) ⌝ }
+// Where a row of n entries ends that begins at `from`, in an array of `most` entries.
+fn row_end(from: usize, n: u64, most: usize) -> usize
+    ensures { λ r. ⌜ r ≤ most ⌝ }
 {
-    if times == 0 {
-        return i + 1;
+    let len = least(n as usize, ENTRIES);
+    if most < from {
+        return most;
     }
-    if times < len - i { i + times } else { len }
+    if len < most - from { from + len } else { most }
 }
 
-fn put(row: &mut [u64], from: usize, to: usize, v: u64) {
-    let mut i = from;
-    while i < to {
-        if row.len() <= i {
-            return;
-        }
-        row[i] = v;
-        i += 1;
-    }
-}
-
-// Reads a row: its length and its runs.
-pub fn fill(t: &[u8], at: usize, row: &mut [u64]) -> Row {
+// Each of these reads a row, its length and its runs, into the entries from `from` on.
+pub fn row_u8(t: &[u8], at: usize, to: &mut [u8], from: usize) -> Row {
     let head = tokens::number(t, at);
-    let len = least(head.value as usize, row.len());
-    let mut next = head.next;
-    let mut i = 0;
-    while i < len {
-        let r = tokens::run_at(t, tokens::after(t, next));
-        let e = run_end(i, r.times, len);
-        put(row, i, e, r.value);
-        next = r.next;
-        i = e;
+    let end = row_end(from, head.value, to.len());
+    let mut r = tokens::before(head.next);
+    let mut i = from;
+    while i < end {
+        r = tokens::step(t, r);
+        to[i] = (r.value % 256) as u8;
+        i += 1;
     }
     Row {
-        len,
-        next: tokens::after(t, next),
+        len: i - from,
+        next: tokens::after(t, r.next),
     }
 }
 
-pub fn to_u8(from: &[u64], n: usize, to: &mut [u8]) {
-    let mut i = 0;
-    while i < n {
-        if from.len() <= i {
-            return;
-        }
-        if to.len() <= i {
-            return;
-        }
-        to[i] = (from[i] % 256) as u8;
+pub fn row_u16(t: &[u8], at: usize, to: &mut [u16], from: usize) -> Row {
+    let head = tokens::number(t, at);
+    let end = row_end(from, head.value, to.len());
+    let mut r = tokens::before(head.next);
+    let mut i = from;
+    while i < end {
+        r = tokens::step(t, r);
+        to[i] = (r.value % 65536) as u16;
         i += 1;
+    }
+    Row {
+        len: i - from,
+        next: tokens::after(t, r.next),
     }
 }
 
-pub fn to_u16(from: &[u64], n: usize, to: &mut [u16]) {
-    let mut i = 0;
-    while i < n {
-        if from.len() <= i {
-            return;
-        }
-        if to.len() <= i {
-            return;
-        }
-        to[i] = (from[i] % 65536) as u16;
+pub fn row_u32(t: &[u8], at: usize, to: &mut [u32], from: usize) -> Row {
+    let head = tokens::number(t, at);
+    let end = row_end(from, head.value, to.len());
+    let mut r = tokens::before(head.next);
+    let mut i = from;
+    while i < end {
+        r = tokens::step(t, r);
+        to[i] = (r.value % 4294967296) as u32;
         i += 1;
     }
-}
-
-pub fn to_u32(from: &[u64], n: usize, to: &mut [u32]) {
-    let mut i = 0;
-    while i < n {
-        if from.len() <= i {
-            return;
-        }
-        if to.len() <= i {
-            return;
-        }
-        to[i] = (from[i] % 4294967296) as u32;
-        i += 1;
+    Row {
+        len: i - from,
+        next: tokens::after(t, r.next),
     }
 }
 
@@ -119,18 +103,20 @@ fn signed16(v: u64) -> i16 {
     }
 }
 
-pub fn to_i16(from: &[u64], n: usize, to: &mut [i16]) {
-    let mut i = 0;
-    while i < n {
-        if from.len() <= i {
-            return;
-        }
-        if to.len() <= i {
-            return;
-        }
-        let v = signed16(from[i]);
+pub fn row_i16(t: &[u8], at: usize, to: &mut [i16], from: usize) -> Row {
+    let head = tokens::number(t, at);
+    let end = row_end(from, head.value, to.len());
+    let mut r = tokens::before(head.next);
+    let mut i = from;
+    while i < end {
+        r = tokens::step(t, r);
+        let v = signed16(r.value);
         to[i] = v;
         i += 1;
+    }
+    Row {
+        len: i - from,
+        next: tokens::after(t, r.next),
     }
 }
 
@@ -156,18 +142,20 @@ fn signed32(v: u64) -> i32 {
     }
 }
 
-pub fn to_i32(from: &[u64], n: usize, to: &mut [i32]) {
-    let mut i = 0;
-    while i < n {
-        if from.len() <= i {
-            return;
-        }
-        if to.len() <= i {
-            return;
-        }
-        let v = signed32(from[i]);
+pub fn row_i32(t: &[u8], at: usize, to: &mut [i32], from: usize) -> Row {
+    let head = tokens::number(t, at);
+    let end = row_end(from, head.value, to.len());
+    let mut r = tokens::before(head.next);
+    let mut i = from;
+    while i < end {
+        r = tokens::step(t, r);
+        let v = signed32(r.value);
         to[i] = v;
         i += 1;
+    }
+    Row {
+        len: i - from,
+        next: tokens::after(t, r.next),
     }
 }
 
@@ -274,5 +262,13 @@ pub fn part_u16(row: &[u16], at: usize, n: usize) -> &[u16] {
         row
     } else {
         first_u16(&row[at..], n)
+    }
+}
+
+pub fn part_u32(row: &[u32], at: usize, n: usize) -> &[u32] {
+    if row.len() < at {
+        row
+    } else {
+        first_u32(&row[at..], n)
     }
 }

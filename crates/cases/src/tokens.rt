@@ -106,3 +106,25 @@ pub fn run_at(t: &[u8], at: usize) -> Run {
         next,
     }
 }
+
+// What stands before the first run, whose place is after `next`.
+pub fn before(next: usize) -> Run {
+    Run {
+        value: 0,
+        times: 0,
+        next,
+    }
+}
+
+// The entry after one that was read: the same run's next, or the first of the run that follows.
+pub fn step(t: &[u8], r: Run) -> Run {
+    if 1 < r.times {
+        Run {
+            value: r.value,
+            times: r.times - 1,
+            next: r.next,
+        }
+    } else {
+        run_at(t, after(t, r.next))
+    }
+}
