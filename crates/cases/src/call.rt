@@ -5,11 +5,11 @@ use crate::series::HALVES;
 use crate::series::WORDS;
 use crate::show;
 use crate::tokens;
+use figures::Figures;
 use quantify::Answer;
 
 struct Head {
     name: usize,
-    name_end: usize,
     intervals: u32,
     devices: u32,
     mine: u32,
@@ -35,19 +35,21 @@ struct Sizes {
     exact: usize,
 }
 
+fn word(v: u64) -> u32 {
+    (v % 4294967296) as u32
+}
+
 fn head_of(t: &[u8], at: usize) -> Head {
     let name = tokens::after(t, tokens::end(t, at));
-    let name_end = tokens::end(t, name);
-    let intervals = tokens::number(t, tokens::after(t, name_end));
-    let devices = tokens::number(t, tokens::after(t, intervals.next));
-    let mine = tokens::number(t, tokens::after(t, devices.next));
+    let intervals = tokens::next_number(t, tokens::end(t, name));
+    let devices = tokens::next_number(t, intervals.next);
+    let mine = tokens::next_number(t, devices.next);
     Head {
         name,
-        name_end,
-        intervals: (intervals.value % 4294967296) as u32,
-        devices: (devices.value % 4294967296) as u32,
-        mine: (mine.value % 4294967296) as u32,
-        next: tokens::after(t, mine.next),
+        intervals: word(intervals.value),
+        devices: word(devices.value),
+        mine: word(mine.value),
+        next: mine.next,
     }
 }
 
@@ -72,9 +74,9 @@ fn read(
     let a9 = series::row_u8(t, a8.next, status, 0);
     let a10 = series::row_u32(t, a9.next, words, 140548);
     let a11 = series::row_u32(t, a10.next, words, 175685);
-    let n1 = tokens::number(t, a11.next);
-    let n2 = tokens::number(t, tokens::after(t, n1.next));
-    let n3 = tokens::number(t, tokens::after(t, n2.next));
+    let n1 = tokens::next_number(t, a11.next);
+    let n2 = tokens::next_number(t, n1.next);
+    let n3 = tokens::next_number(t, n2.next);
     Sizes {
         kinds: a1.len,
         counts: a2.len,
@@ -124,6 +126,26 @@ fn each_device(
     }
 }
 
+// An accepted case: the sheet, each device, and how near the sheet is to the exact reduction.
+fn accepted(
+    f: Figures,
+    t: &[u8],
+    exact: usize,
+    outcome: &[u8],
+    flow_used: &[u16],
+    content_used: &[u16],
+) {
+    let near = show::sheet(f, t, exact);
+    each_device(
+        f.intervals as usize,
+        f.devices,
+        outcome,
+        flow_used,
+        content_used,
+    );
+    show::exact(t, exact, near);
+}
+
 // What the call answered, and what it left in the rows.
 fn shown(
     a: Answer,
@@ -135,15 +157,7 @@ fn shown(
 ) {
     match a {
         Answer::Accepted(f) => {
-            let near = show::sheet(f, t, exact);
-            each_device(
-                f.intervals as usize,
-                f.devices,
-                outcome,
-                flow_used,
-                content_used,
-            );
-            show::exact(t, exact, near);
+            accepted(f, t, exact, outcome, flow_used, content_used);
         }
         Answer::Refused(r) => {
             show::refusal(r, outcome, flow_used, content_used);
@@ -176,13 +190,59 @@ fn asked(
         series::part_u16(halves, 35137, s.content),
         series::first_i16(temp, s.temp),
         series::part_u32(words, 105411, s.press),
-        series::first_u8(status, s.status),
+        series::part_u8(status, 0, s.status),
         series::part_u32(words, 140548, s.quantity),
         series::part_u32(words, 175685, s.factor),
         series::lent_u8(outcome, s.outcome),
         series::lent_u16(flow_used, s.flow_used),
         series::lent_u16(content_used, s.content_used),
     )
+}
+
+// Each array as a slice, once.
+fn answered(
+    h: Head,
+    s: Sizes,
+    words: &[u32; WORDS],
+    drifts: &[i32; ENTRIES],
+    halves: &[u16; HALVES],
+    temp: &[i16; ENTRIES],
+    status: &[u8; ENTRIES],
+    outcome: &mut [u8; ENTRIES],
+    flow_used: &mut [u16; ENTRIES],
+    content_used: &mut [u16; ENTRIES],
+) -> Answer {
+    asked(
+        h,
+        s,
+        words,
+        drifts,
+        halves,
+        temp,
+        status,
+        outcome,
+        flow_used,
+        content_used,
+    )
+}
+
+// The parts of the result rows that were lent, after the call.
+fn left(
+    a: Answer,
+    s: Sizes,
+    t: &[u8],
+    outcome: &[u8; ENTRIES],
+    flow_used: &[u16; ENTRIES],
+    content_used: &[u16; ENTRIES],
+) {
+    shown(
+        a,
+        t,
+        s.exact,
+        series::part_u8(outcome, 0, s.outcome),
+        series::part_u16(flow_used, 0, s.flow_used),
+        series::part_u16(content_used, 0, s.content_used),
+    );
 }
 
 // The call on result rows that are painted first, and what it leaves in them.
@@ -195,52 +255,16 @@ fn painted(
     halves: &[u16; HALVES],
     temp: &[i16; ENTRIES],
     status: &[u8; ENTRIES],
-    outcome: &mut [u8; ENTRIES],
-    flow_used: &mut [u16; ENTRIES],
-    content_used: &mut [u16; ENTRIES],
-) {
-    series::paint_u8(outcome, s.outcome);
-    series::paint_u16(flow_used, s.flow_used);
-    series::paint_u16(content_used, s.content_used);
-    let a = asked(
-        h,
-        s,
-        words,
-        drifts,
-        halves,
-        temp,
-        status,
-        outcome,
-        flow_used,
-        content_used,
-    );
-    shown(
-        a,
-        t,
-        s.exact,
-        series::first_u8(outcome, s.outcome),
-        series::first_u16(flow_used, s.flow_used),
-        series::first_u16(content_used, s.content_used),
-    );
-}
-
-fn called(
-    h: Head,
-    s: Sizes,
-    t: &[u8],
-    words: &[u32; WORDS],
-    drifts: &[i32; ENTRIES],
-    halves: &[u16; HALVES],
-    temp: &[i16; ENTRIES],
-    status: &[u8; ENTRIES],
 ) {
     let mut outcome = [0u8; ENTRIES];
     let mut flow_used = [0u16; ENTRIES];
     let mut content_used = [0u16; ENTRIES];
-    painted(
+    series::paint_u8(&mut outcome);
+    series::paint_u16(&mut flow_used);
+    series::paint_u16(&mut content_used);
+    let a = answered(
         h,
         s,
-        t,
         words,
         drifts,
         halves,
@@ -250,11 +274,14 @@ fn called(
         &mut flow_used,
         &mut content_used,
     );
+    left(a, s, t, &outcome, &flow_used, &content_used);
 }
 
-// Reads, calls and shows the case at `at`, and gives the place where the next one begins.
+// Reads, calls and shows the case at `at`, and gives the place where the next one begins. The arrays are each case's own: a loop
+// that lent them would be dear to check.
 fn one_case(t: &[u8], at: usize) -> usize {
     let h = head_of(t, at);
+    show::name(t, h.name);
     let mut words = [0u32; WORDS];
     let mut drifts = [0i32; ENTRIES];
     let mut halves = [0u16; HALVES];
@@ -269,12 +296,11 @@ fn one_case(t: &[u8], at: usize) -> usize {
         &mut temp,
         &mut status,
     );
-    show::name(t, h.name, h.name_end);
-    called(h, s, t, &words, &drifts, &halves, &temp, &status);
+    painted(h, s, t, &words, &drifts, &halves, &temp, &status);
     tokens::after(t, tokens::end(t, s.exact))
 }
 
-// All cases, up to the word `end` or whatever else is no case. The arrays are each case's own: a loop that lent them would be dear to check.
+// All cases, up to the word `end` or whatever else is no case.
 pub fn all_cases(t: &[u8]) {
     let mut at = 0;
     while tokens::stands(t, at, 99) {

@@ -21,22 +21,22 @@ fn least(a: usize, b: usize) -> usize
     if a < b { a } else { b }
 }
 
-// Where a row of n entries ends that begins at `from`, in an array of `most` entries.
-fn row_end(from: usize, n: u64, most: usize) -> usize
+// Where the row ends whose length comes after the byte at `at`, if it begins at `from` in an array of `most` entries.
+fn row_end(t: &[u8], at: usize, from: usize, most: usize) -> usize
     ensures { λ r. ⌜ r ≤ most ⌝ }
 {
-    let len = least(n as usize, ENTRIES);
+    let n = tokens::next_number(t, at);
+    let len = least(n.value as usize, ENTRIES);
     if most < from {
         return most;
     }
     if len < most - from { from + len } else { most }
 }
 
-// Each of these reads a row, its length and its runs, into the entries from `from` on.
-pub fn row_u8(t: &[u8], at: usize, to: &mut [u8], from: usize) -> Row {
-    let head = tokens::number(t, at);
-    let end = row_end(from, head.value, to.len());
-    let mut r = tokens::before(head.next);
+// Each of these reads a row, its length and its runs, into the entries from `from` on. `at` and `next` are the bytes before and after it.
+pub fn row_u8(t: &[u8], at: usize, to: &mut [u8; ENTRIES], from: usize) -> Row {
+    let end = row_end(t, at, from, ENTRIES);
+    let mut r = tokens::before(t, at);
     let mut i = from;
     while i < end {
         r = tokens::step(t, r);
@@ -45,14 +45,13 @@ pub fn row_u8(t: &[u8], at: usize, to: &mut [u8], from: usize) -> Row {
     }
     Row {
         len: i - from,
-        next: tokens::after(t, r.next),
+        next: r.next,
     }
 }
 
-pub fn row_u16(t: &[u8], at: usize, to: &mut [u16], from: usize) -> Row {
-    let head = tokens::number(t, at);
-    let end = row_end(from, head.value, to.len());
-    let mut r = tokens::before(head.next);
+pub fn row_u16(t: &[u8], at: usize, to: &mut [u16; HALVES], from: usize) -> Row {
+    let end = row_end(t, at, from, HALVES);
+    let mut r = tokens::before(t, at);
     let mut i = from;
     while i < end {
         r = tokens::step(t, r);
@@ -61,14 +60,13 @@ pub fn row_u16(t: &[u8], at: usize, to: &mut [u16], from: usize) -> Row {
     }
     Row {
         len: i - from,
-        next: tokens::after(t, r.next),
+        next: r.next,
     }
 }
 
-pub fn row_u32(t: &[u8], at: usize, to: &mut [u32], from: usize) -> Row {
-    let head = tokens::number(t, at);
-    let end = row_end(from, head.value, to.len());
-    let mut r = tokens::before(head.next);
+pub fn row_u32(t: &[u8], at: usize, to: &mut [u32; WORDS], from: usize) -> Row {
+    let end = row_end(t, at, from, WORDS);
+    let mut r = tokens::before(t, at);
     let mut i = from;
     while i < end {
         r = tokens::step(t, r);
@@ -77,7 +75,7 @@ pub fn row_u32(t: &[u8], at: usize, to: &mut [u32], from: usize) -> Row {
     }
     Row {
         len: i - from,
-        next: tokens::after(t, r.next),
+        next: r.next,
     }
 }
 
@@ -103,10 +101,9 @@ fn signed16(v: u64) -> i16 {
     }
 }
 
-pub fn row_i16(t: &[u8], at: usize, to: &mut [i16], from: usize) -> Row {
-    let head = tokens::number(t, at);
-    let end = row_end(from, head.value, to.len());
-    let mut r = tokens::before(head.next);
+pub fn row_i16(t: &[u8], at: usize, to: &mut [i16; ENTRIES], from: usize) -> Row {
+    let end = row_end(t, at, from, ENTRIES);
+    let mut r = tokens::before(t, at);
     let mut i = from;
     while i < end {
         r = tokens::step(t, r);
@@ -116,7 +113,7 @@ pub fn row_i16(t: &[u8], at: usize, to: &mut [i16], from: usize) -> Row {
     }
     Row {
         len: i - from,
-        next: tokens::after(t, r.next),
+        next: r.next,
     }
 }
 
@@ -142,10 +139,9 @@ fn signed32(v: u64) -> i32 {
     }
 }
 
-pub fn row_i32(t: &[u8], at: usize, to: &mut [i32], from: usize) -> Row {
-    let head = tokens::number(t, at);
-    let end = row_end(from, head.value, to.len());
-    let mut r = tokens::before(head.next);
+pub fn row_i32(t: &[u8], at: usize, to: &mut [i32; ENTRIES], from: usize) -> Row {
+    let end = row_end(t, at, from, ENTRIES);
+    let mut r = tokens::before(t, at);
     let mut i = from;
     while i < end {
         r = tokens::step(t, r);
@@ -155,7 +151,7 @@ pub fn row_i32(t: &[u8], at: usize, to: &mut [i32], from: usize) -> Row {
     }
     Row {
         len: i - from,
-        next: tokens::after(t, r.next),
+        next: r.next,
     }
 }
 
@@ -168,35 +164,26 @@ fn paint16(i: usize) -> u16 {
     (i % 5000 + 60000) as u16
 }
 
-pub fn paint_u8(row: &mut [u8], n: usize) {
+pub fn paint_u8(row: &mut [u8; ENTRIES]) {
     let mut i = 0;
-    while i < n {
-        if row.len() <= i {
-            return;
-        }
+    while i < ENTRIES {
         row[i] = paint8(i);
         i += 1;
     }
 }
 
-pub fn paint_u16(row: &mut [u16], n: usize) {
+pub fn paint_u16(row: &mut [u16; ENTRIES]) {
     let mut i = 0;
-    while i < n {
-        if row.len() <= i {
-            return;
-        }
+    while i < ENTRIES {
         row[i] = paint16(i);
         i += 1;
     }
 }
 
-// Do the first n entries hold what they held?
-pub fn kept_u8(row: &[u8], n: usize) -> bool {
+// Do the entries hold what they held?
+pub fn kept_u8(row: &[u8]) -> bool {
     let mut i = 0;
-    while i < n {
-        if row.len() <= i {
-            return true;
-        }
+    while i < row.len() {
         if row[i] != paint8(i) {
             return false;
         }
@@ -205,12 +192,9 @@ pub fn kept_u8(row: &[u8], n: usize) -> bool {
     true
 }
 
-pub fn kept_u16(row: &[u16], n: usize) -> bool {
+pub fn kept_u16(row: &[u16]) -> bool {
     let mut i = 0;
-    while i < n {
-        if row.len() <= i {
-            return true;
-        }
+    while i < row.len() {
         if row[i] != paint16(i) {
             return false;
         }
@@ -219,19 +203,35 @@ pub fn kept_u16(row: &[u16], n: usize) -> bool {
     true
 }
 
+// The n entries from `at` on, or the whole row where there are not as many.
+pub fn part_u8(row: &[u8], at: usize, n: usize) -> &[u8] {
+    if at <= row.len() {
+        if n <= row.len() - at {
+            return &row[at..at + n];
+        }
+    }
+    row
+}
+
+pub fn part_u16(row: &[u16], at: usize, n: usize) -> &[u16] {
+    if at <= row.len() {
+        if n <= row.len() - at {
+            return &row[at..at + n];
+        }
+    }
+    row
+}
+
+pub fn part_u32(row: &[u32], at: usize, n: usize) -> &[u32] {
+    if at <= row.len() {
+        if n <= row.len() - at {
+            return &row[at..at + n];
+        }
+    }
+    row
+}
+
 // The first n entries, or all where there are not as many.
-pub fn first_u8(row: &[u8], n: usize) -> &[u8] {
-    if n <= row.len() { &row[..n] } else { row }
-}
-
-pub fn first_u16(row: &[u16], n: usize) -> &[u16] {
-    if n <= row.len() { &row[..n] } else { row }
-}
-
-pub fn first_u32(row: &[u32], n: usize) -> &[u32] {
-    if n <= row.len() { &row[..n] } else { row }
-}
-
 pub fn first_i16(row: &[i16], n: usize) -> &[i16] {
     if n <= row.len() { &row[..n] } else { row }
 }
@@ -246,29 +246,4 @@ pub fn lent_u8(row: &mut [u8], n: usize) -> &mut [u8] {
 
 pub fn lent_u16(row: &mut [u16], n: usize) -> &mut [u16] {
     if n <= row.len() { &mut row[..n] } else { row }
-}
-
-// The n entries from `at` on.
-pub fn part_u8(row: &[u8], at: usize, n: usize) -> &[u8] {
-    if row.len() < at {
-        row
-    } else {
-        first_u8(&row[at..], n)
-    }
-}
-
-pub fn part_u16(row: &[u16], at: usize, n: usize) -> &[u16] {
-    if row.len() < at {
-        row
-    } else {
-        first_u16(&row[at..], n)
-    }
-}
-
-pub fn part_u32(row: &[u32], at: usize, n: usize) -> &[u32] {
-    if row.len() < at {
-        row
-    } else {
-        first_u32(&row[at..], n)
-    }
 }
