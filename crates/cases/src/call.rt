@@ -49,7 +49,7 @@ fn head_of(t: &[u8], at: usize) -> Head {
         intervals: word(intervals.value),
         devices: word(devices.value),
         mine: word(mine.value),
-        next: mine.next,
+        next: tokens::after(t, mine.next),
     }
 }
 
@@ -63,32 +63,21 @@ fn read(
     temp: &mut [i16; ENTRIES],
     status: &mut [u8; ENTRIES],
 ) -> Sizes {
-    let a1 = series::row_u32(t, at, words, 0);
-    let a2 = series::row_u32(t, a1.next, words, 35137);
-    let a3 = series::row_u32(t, a2.next, words, 70274);
-    let a4 = series::row_i32(t, a3.next, drifts, 0);
-    let a5 = series::row_u16(t, a4.next, halves, 0);
-    let a6 = series::row_u16(t, a5.next, halves, 35137);
-    let a7 = series::row_i16(t, a6.next, temp, 0);
-    let a8 = series::row_u32(t, a7.next, words, 105411);
-    let a9 = series::row_u8(t, a8.next, status, 0);
-    let a10 = series::row_u32(t, a9.next, words, 140548);
-    let a11 = series::row_u32(t, a10.next, words, 175685);
-    let n1 = tokens::next_number(t, a11.next);
+    let n1 = tokens::number(t, tokens::line_at(t, at, 11));
     let n2 = tokens::next_number(t, n1.next);
     let n3 = tokens::next_number(t, n2.next);
     Sizes {
-        kinds: a1.len,
-        counts: a2.len,
-        places: a3.len,
-        drifts: a4.len,
-        flow: a5.len,
-        content: a6.len,
-        temp: a7.len,
-        press: a8.len,
-        status: a9.len,
-        quantity: a10.len,
-        factor: a11.len,
+        kinds: series::row_u32(t, at, 0, words, 0),
+        counts: series::row_u32(t, at, 1, words, 35137),
+        places: series::row_u32(t, at, 2, words, 70274),
+        drifts: series::row_i32(t, at, 3, drifts, 0),
+        flow: series::row_u16(t, at, 4, halves, 0),
+        content: series::row_u16(t, at, 5, halves, 35137),
+        temp: series::row_i16(t, at, 6, temp, 0),
+        press: series::row_u32(t, at, 7, words, 105411),
+        status: series::row_u8(t, at, 8, status, 0),
+        quantity: series::row_u32(t, at, 9, words, 140548),
+        factor: series::row_u32(t, at, 10, words, 175685),
         outcome: n1.value as usize,
         flow_used: n2.value as usize,
         content_used: n3.value as usize,

@@ -10,22 +10,17 @@ pub const WORDS: usize = 210822;
 
 pub const HALVES: usize = 70274;
 
-pub struct Row {
-    pub len: usize,
-    pub next: usize,
-}
-
 fn least(a: usize, b: usize) -> usize
     ensures { λ r. ⌜ r ≤ b ⌝ }
 {
     if a < b { a } else { b }
 }
 
-// Where the row ends whose length comes after the byte at `at`, if it begins at `from` in an array of `most` entries.
+// Where the row ends whose length stands at `at`, if it begins at `from` in an array of `most` entries.
 fn row_end(t: &[u8], at: usize, from: usize, most: usize) -> usize
     ensures { λ r. ⌜ r ≤ most ⌝ }
 {
-    let n = tokens::next_number(t, at);
+    let n = tokens::number(t, at);
     let len = least(n.value as usize, ENTRIES);
     if most < from {
         return most;
@@ -33,8 +28,9 @@ fn row_end(t: &[u8], at: usize, from: usize, most: usize) -> usize
     if len < most - from { from + len } else { most }
 }
 
-// Each of these reads a row, its length and its runs, into the entries from `from` on. `at` and `next` are the bytes before and after it.
-pub fn row_u8(t: &[u8], at: usize, to: &mut [u8; ENTRIES], from: usize) -> Row {
+// Each of these reads the row in line `line` after `head`, its length and its runs, into the entries from `from` on, and gives its length.
+pub fn row_u8(t: &[u8], head: usize, line: u64, to: &mut [u8; ENTRIES], from: usize) -> usize {
+    let at = tokens::line_at(t, head, line);
     let end = row_end(t, at, from, ENTRIES);
     let mut r = tokens::before(t, at);
     let mut i = from;
@@ -43,13 +39,11 @@ pub fn row_u8(t: &[u8], at: usize, to: &mut [u8; ENTRIES], from: usize) -> Row {
         to[i] = (r.value % 256) as u8;
         i += 1;
     }
-    Row {
-        len: i - from,
-        next: r.next,
-    }
+    i - from
 }
 
-pub fn row_u16(t: &[u8], at: usize, to: &mut [u16; HALVES], from: usize) -> Row {
+pub fn row_u16(t: &[u8], head: usize, line: u64, to: &mut [u16; HALVES], from: usize) -> usize {
+    let at = tokens::line_at(t, head, line);
     let end = row_end(t, at, from, HALVES);
     let mut r = tokens::before(t, at);
     let mut i = from;
@@ -58,13 +52,11 @@ pub fn row_u16(t: &[u8], at: usize, to: &mut [u16; HALVES], from: usize) -> Row 
         to[i] = (r.value % 65536) as u16;
         i += 1;
     }
-    Row {
-        len: i - from,
-        next: r.next,
-    }
+    i - from
 }
 
-pub fn row_u32(t: &[u8], at: usize, to: &mut [u32; WORDS], from: usize) -> Row {
+pub fn row_u32(t: &[u8], head: usize, line: u64, to: &mut [u32; WORDS], from: usize) -> usize {
+    let at = tokens::line_at(t, head, line);
     let end = row_end(t, at, from, WORDS);
     let mut r = tokens::before(t, at);
     let mut i = from;
@@ -73,10 +65,7 @@ pub fn row_u32(t: &[u8], at: usize, to: &mut [u32; WORDS], from: usize) -> Row {
         to[i] = (r.value % 4294967296) as u32;
         i += 1;
     }
-    Row {
-        len: i - from,
-        next: r.next,
-    }
+    i - from
 }
 
 fn above16(m: u64) -> i16
@@ -101,7 +90,8 @@ fn signed16(v: u64) -> i16 {
     }
 }
 
-pub fn row_i16(t: &[u8], at: usize, to: &mut [i16; ENTRIES], from: usize) -> Row {
+pub fn row_i16(t: &[u8], head: usize, line: u64, to: &mut [i16; ENTRIES], from: usize) -> usize {
+    let at = tokens::line_at(t, head, line);
     let end = row_end(t, at, from, ENTRIES);
     let mut r = tokens::before(t, at);
     let mut i = from;
@@ -111,10 +101,7 @@ pub fn row_i16(t: &[u8], at: usize, to: &mut [i16; ENTRIES], from: usize) -> Row
         to[i] = v;
         i += 1;
     }
-    Row {
-        len: i - from,
-        next: r.next,
-    }
+    i - from
 }
 
 fn above32(m: u64) -> i32
@@ -139,7 +126,8 @@ fn signed32(v: u64) -> i32 {
     }
 }
 
-pub fn row_i32(t: &[u8], at: usize, to: &mut [i32; ENTRIES], from: usize) -> Row {
+pub fn row_i32(t: &[u8], head: usize, line: u64, to: &mut [i32; ENTRIES], from: usize) -> usize {
+    let at = tokens::line_at(t, head, line);
     let end = row_end(t, at, from, ENTRIES);
     let mut r = tokens::before(t, at);
     let mut i = from;
@@ -149,10 +137,7 @@ pub fn row_i32(t: &[u8], at: usize, to: &mut [i32; ENTRIES], from: usize) -> Row
         to[i] = v;
         i += 1;
     }
-    Row {
-        len: i - from,
-        next: r.next,
-    }
+    i - from
 }
 
 // What a result row holds before a call: no outcome and no value that a call could write.

@@ -100,32 +100,13 @@ pub fn device(d: u64, outcome: &[u8], flow_used: &[u16], content_used: &[u16]) {
     line(b" ", checksum_u16(content_used));
 }
 
-fn fewer(left: u64, b: u8) -> u64 {
-    if b == 10 {
-        if 0 < left {
-            return left - 1;
-        }
-    }
-    left
-}
-
-// Where the line after so many lines begins.
-fn line_at(t: &[u8], lines: u64) -> usize {
-    let mut left = lines;
-    let mut i = 0;
-    while i < t.len() {
-        if left == 0 {
-            return i;
-        }
-        left = fewer(left, t[i]);
-        i += 1;
-    }
-    i
-}
-
 // The milligrams of a sheet's tonnes, as it is written in line 14, and 10^18 more.
 fn reported_mg(t: &[u8]) -> u64 {
-    let tonnes = tokens::signed(t, tokens::after_key(t, line_at(t, 13)), 1000000000);
+    let tonnes = tokens::signed(
+        t,
+        tokens::after_key(t, tokens::line_at(t, 0, 13)),
+        1000000000,
+    );
     tonnes.value * 1000000000
 }
 

@@ -82,6 +82,29 @@ pub fn after_key(t: &[u8], at: usize) -> usize {
     i
 }
 
+fn fewer(left: u64, b: u8) -> u64 {
+    if b == 10 {
+        if 0 < left {
+            return left - 1;
+        }
+    }
+    left
+}
+
+// Where the line begins that is so many lines after the one at `from`.
+pub fn line_at(t: &[u8], from: usize, lines: u64) -> usize {
+    let mut left = lines;
+    let mut i = from;
+    while i < t.len() {
+        if left == 0 {
+            return i;
+        }
+        left = fewer(left, t[i]);
+        i += 1;
+    }
+    i
+}
+
 // A number as `most` more than it is, so that it is not negative; 0 where it is beyond `most`.
 fn lifted(value: u64, minus: bool, most: u64) -> u64
     requires { ⌜ most ≤ 1000000000000000000 ⌝ }
@@ -128,9 +151,9 @@ fn run_at(t: &[u8], at: usize) -> Run {
     }
 }
 
-// What stands before a row's first run: its length, which comes after the byte at `at`.
+// What stands before a row's first run: its length, at `at`.
 pub fn before(t: &[u8], at: usize) -> Run {
-    let n = next_number(t, at);
+    let n = number(t, at);
     Run {
         value: 0,
         times: 0,
