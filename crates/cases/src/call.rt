@@ -1,14 +1,15 @@
 // One case after the other: read, called, shown.
 use crate::series;
 use crate::series::ENTRIES;
-use crate::series::Row;
+use crate::series::HALVES;
+use crate::series::WORDS;
 use crate::show;
 use crate::tokens;
+use figures::Figures;
 use quantify::Answer;
 
 struct Head {
     name: usize,
-    name_end: usize,
     intervals: u32,
     devices: u32,
     mine: u32,
@@ -34,94 +35,49 @@ struct Sizes {
     exact: usize,
 }
 
+fn word(v: u64) -> u32 {
+    (v % 4294967296) as u32
+}
+
 fn head_of(t: &[u8], at: usize) -> Head {
     let name = tokens::after(t, tokens::end(t, at));
-    let name_end = tokens::end(t, name);
-    let intervals = tokens::number(t, tokens::after(t, name_end));
-    let devices = tokens::number(t, tokens::after(t, intervals.next));
-    let mine = tokens::number(t, tokens::after(t, devices.next));
+    let intervals = tokens::next_number(t, tokens::end(t, name));
+    let devices = tokens::next_number(t, intervals.next);
+    let mine = tokens::next_number(t, devices.next);
     Head {
         name,
-        name_end,
-        intervals: (intervals.value % 4294967296) as u32,
-        devices: (devices.value % 4294967296) as u32,
-        mine: (mine.value % 4294967296) as u32,
+        intervals: word(intervals.value),
+        devices: word(devices.value),
+        mine: word(mine.value),
         next: tokens::after(t, mine.next),
     }
 }
 
-fn row_u8(t: &[u8], at: usize, scratch: &mut [u64; ENTRIES], to: &mut [u8; ENTRIES]) -> Row {
-    let r = series::fill(t, at, scratch);
-    series::to_u8(scratch, r.len, to);
-    r
-}
-
-fn row_u16(t: &[u8], at: usize, scratch: &mut [u64; ENTRIES], to: &mut [u16; ENTRIES]) -> Row {
-    let r = series::fill(t, at, scratch);
-    series::to_u16(scratch, r.len, to);
-    r
-}
-
-fn row_u32(t: &[u8], at: usize, scratch: &mut [u64; ENTRIES], to: &mut [u32; ENTRIES]) -> Row {
-    let r = series::fill(t, at, scratch);
-    series::to_u32(scratch, r.len, to);
-    r
-}
-
-fn row_i16(t: &[u8], at: usize, scratch: &mut [u64; ENTRIES], to: &mut [i16; ENTRIES]) -> Row {
-    let r = series::fill(t, at, scratch);
-    series::to_i16(scratch, r.len, to);
-    r
-}
-
-fn row_i32(t: &[u8], at: usize, scratch: &mut [u64; ENTRIES], to: &mut [i32; ENTRIES]) -> Row {
-    let r = series::fill(t, at, scratch);
-    series::to_i32(scratch, r.len, to);
-    r
-}
-
+// The rows of 32 bits are kinds, counts, places, pressure, fuel quantities and factors; those of 16 bits flow and content.
 fn read(
     t: &[u8],
     at: usize,
-    scratch: &mut [u64; ENTRIES],
-    kinds: &mut [u32; ENTRIES],
-    counts: &mut [u32; ENTRIES],
-    places: &mut [u32; ENTRIES],
+    words: &mut [u32; WORDS],
     drifts: &mut [i32; ENTRIES],
-    flow: &mut [u16; ENTRIES],
-    content: &mut [u16; ENTRIES],
+    halves: &mut [u16; HALVES],
     temp: &mut [i16; ENTRIES],
-    press: &mut [u32; ENTRIES],
     status: &mut [u8; ENTRIES],
-    quantity: &mut [u32; ENTRIES],
-    factor: &mut [u32; ENTRIES],
 ) -> Sizes {
-    let a1 = row_u32(t, at, scratch, kinds);
-    let a2 = row_u32(t, a1.next, scratch, counts);
-    let a3 = row_u32(t, a2.next, scratch, places);
-    let a4 = row_i32(t, a3.next, scratch, drifts);
-    let a5 = row_u16(t, a4.next, scratch, flow);
-    let a6 = row_u16(t, a5.next, scratch, content);
-    let a7 = row_i16(t, a6.next, scratch, temp);
-    let a8 = row_u32(t, a7.next, scratch, press);
-    let a9 = row_u8(t, a8.next, scratch, status);
-    let a10 = row_u32(t, a9.next, scratch, quantity);
-    let a11 = row_u32(t, a10.next, scratch, factor);
-    let n1 = tokens::number(t, a11.next);
-    let n2 = tokens::number(t, tokens::after(t, n1.next));
-    let n3 = tokens::number(t, tokens::after(t, n2.next));
+    let n1 = tokens::number(t, tokens::line_at(t, at, 11));
+    let n2 = tokens::next_number(t, n1.next);
+    let n3 = tokens::next_number(t, n2.next);
     Sizes {
-        kinds: a1.len,
-        counts: a2.len,
-        places: a3.len,
-        drifts: a4.len,
-        flow: a5.len,
-        content: a6.len,
-        temp: a7.len,
-        press: a8.len,
-        status: a9.len,
-        quantity: a10.len,
-        factor: a11.len,
+        kinds: series::row_u32(t, at, 0, words, 0),
+        counts: series::row_u32(t, at, 1, words, 35137),
+        places: series::row_u32(t, at, 2, words, 70274),
+        drifts: series::row_i32(t, at, 3, drifts, 0),
+        flow: series::row_u16(t, at, 4, halves, 0),
+        content: series::row_u16(t, at, 5, halves, 35137),
+        temp: series::row_i16(t, at, 6, temp, 0),
+        press: series::row_u32(t, at, 7, words, 105411),
+        status: series::row_u8(t, at, 8, status, 0),
+        quantity: series::row_u32(t, at, 9, words, 140548),
+        factor: series::row_u32(t, at, 10, words, 175685),
         outcome: n1.value as usize,
         flow_used: n2.value as usize,
         content_used: n3.value as usize,
@@ -159,6 +115,26 @@ fn each_device(
     }
 }
 
+// An accepted case: the sheet, each device, and how near the sheet is to the exact reduction.
+fn accepted(
+    f: Figures,
+    t: &[u8],
+    exact: usize,
+    outcome: &[u8],
+    flow_used: &[u16],
+    content_used: &[u16],
+) {
+    let near = show::sheet(f, t, exact);
+    each_device(
+        f.intervals as usize,
+        f.devices,
+        outcome,
+        flow_used,
+        content_used,
+    );
+    show::exact(t, exact, near);
+}
+
 // What the call answered, and what it left in the rows.
 fn shown(
     a: Answer,
@@ -170,15 +146,7 @@ fn shown(
 ) {
     match a {
         Answer::Accepted(f) => {
-            let near = show::sheet(f, t, exact);
-            each_device(
-                f.intervals as usize,
-                f.devices,
-                outcome,
-                flow_used,
-                content_used,
-            );
-            show::exact(t, exact, near);
+            accepted(f, t, exact, outcome, flow_used, content_used);
         }
         Answer::Refused(r) => {
             show::refusal(r, outcome, flow_used, content_used);
@@ -190,17 +158,11 @@ fn shown(
 fn asked(
     h: Head,
     s: Sizes,
-    kinds: &[u32],
-    counts: &[u32],
-    places: &[u32],
+    words: &[u32],
     drifts: &[i32],
-    flow: &[u16],
-    content: &[u16],
+    halves: &[u16],
     temp: &[i16],
-    press: &[u32],
     status: &[u8],
-    quantity: &[u32],
-    factor: &[u32],
     outcome: &mut [u8],
     flow_used: &mut [u16],
     content_used: &mut [u16],
@@ -209,133 +171,129 @@ fn asked(
         h.intervals,
         h.devices,
         h.mine,
-        series::first_u32(kinds, s.kinds),
-        series::first_u32(counts, s.counts),
-        series::first_u32(places, s.places),
+        series::part_u32(words, 0, s.kinds),
+        series::part_u32(words, 35137, s.counts),
+        series::part_u32(words, 70274, s.places),
         series::first_i32(drifts, s.drifts),
-        series::first_u16(flow, s.flow),
-        series::first_u16(content, s.content),
+        series::part_u16(halves, 0, s.flow),
+        series::part_u16(halves, 35137, s.content),
         series::first_i16(temp, s.temp),
-        series::first_u32(press, s.press),
-        series::first_u8(status, s.status),
-        series::first_u32(quantity, s.quantity),
-        series::first_u32(factor, s.factor),
+        series::part_u32(words, 105411, s.press),
+        series::part_u8(status, 0, s.status),
+        series::part_u32(words, 140548, s.quantity),
+        series::part_u32(words, 175685, s.factor),
         series::lent_u8(outcome, s.outcome),
         series::lent_u16(flow_used, s.flow_used),
         series::lent_u16(content_used, s.content_used),
     )
 }
 
-// Reads, calls and shows the case at `at`, and gives the place where the next one begins.
-fn one_case(
-    t: &[u8],
-    at: usize,
-    scratch: &mut [u64; ENTRIES],
-    kinds: &mut [u32; ENTRIES],
-    counts: &mut [u32; ENTRIES],
-    places: &mut [u32; ENTRIES],
-    drifts: &mut [i32; ENTRIES],
-    flow: &mut [u16; ENTRIES],
-    content: &mut [u16; ENTRIES],
-    temp: &mut [i16; ENTRIES],
-    press: &mut [u32; ENTRIES],
-    status: &mut [u8; ENTRIES],
-    quantity: &mut [u32; ENTRIES],
-    factor: &mut [u32; ENTRIES],
+// Each array as a slice, once.
+fn answered(
+    h: Head,
+    s: Sizes,
+    words: &[u32; WORDS],
+    drifts: &[i32; ENTRIES],
+    halves: &[u16; HALVES],
+    temp: &[i16; ENTRIES],
+    status: &[u8; ENTRIES],
     outcome: &mut [u8; ENTRIES],
     flow_used: &mut [u16; ENTRIES],
     content_used: &mut [u16; ENTRIES],
-) -> usize {
-    let h = head_of(t, at);
-    let s = read(
-        t,
-        h.next,
-        scratch,
-        kinds,
-        counts,
-        places,
-        drifts,
-        flow,
-        content,
-        temp,
-        press,
-        status,
-        quantity,
-        factor,
-    );
-    series::paint_u8(outcome, s.outcome);
-    series::paint_u16(flow_used, s.flow_used);
-    series::paint_u16(content_used, s.content_used);
-    show::name(t, h.name, h.name_end);
-    let a = asked(
+) -> Answer {
+    asked(
         h,
         s,
-        kinds,
-        counts,
-        places,
+        words,
         drifts,
-        flow,
-        content,
+        halves,
         temp,
-        press,
         status,
-        quantity,
-        factor,
         outcome,
         flow_used,
         content_used,
-    );
+    )
+}
+
+// The parts of the result rows that were lent, after the call.
+fn left(
+    a: Answer,
+    s: Sizes,
+    t: &[u8],
+    outcome: &[u8; ENTRIES],
+    flow_used: &[u16; ENTRIES],
+    content_used: &[u16; ENTRIES],
+) {
     shown(
         a,
         t,
         s.exact,
-        series::first_u8(outcome, s.outcome),
-        series::first_u16(flow_used, s.flow_used),
-        series::first_u16(content_used, s.content_used),
+        series::part_u8(outcome, 0, s.outcome),
+        series::part_u16(flow_used, 0, s.flow_used),
+        series::part_u16(content_used, 0, s.content_used),
     );
+}
+
+// The call on result rows that are painted first, and what it leaves in them.
+fn painted(
+    h: Head,
+    s: Sizes,
+    t: &[u8],
+    words: &[u32; WORDS],
+    drifts: &[i32; ENTRIES],
+    halves: &[u16; HALVES],
+    temp: &[i16; ENTRIES],
+    status: &[u8; ENTRIES],
+) {
+    let mut outcome = [0u8; ENTRIES];
+    let mut flow_used = [0u16; ENTRIES];
+    let mut content_used = [0u16; ENTRIES];
+    series::paint_u8(&mut outcome);
+    series::paint_u16(&mut flow_used);
+    series::paint_u16(&mut content_used);
+    let a = answered(
+        h,
+        s,
+        words,
+        drifts,
+        halves,
+        temp,
+        status,
+        &mut outcome,
+        &mut flow_used,
+        &mut content_used,
+    );
+    left(a, s, t, &outcome, &flow_used, &content_used);
+}
+
+// Reads, calls and shows the case at `at`, and gives the place where the next one begins. The arrays are each case's own: a loop
+// that lent them would be dear to check.
+fn one_case(t: &[u8], at: usize) -> usize {
+    let h = head_of(t, at);
+    show::name(t, h.name);
+    let mut words = [0u32; WORDS];
+    let mut drifts = [0i32; ENTRIES];
+    let mut halves = [0u16; HALVES];
+    let mut temp = [0i16; ENTRIES];
+    let mut status = [0u8; ENTRIES];
+    let s = read(
+        t,
+        h.next,
+        &mut words,
+        &mut drifts,
+        &mut halves,
+        &mut temp,
+        &mut status,
+    );
+    painted(h, s, t, &words, &drifts, &halves, &temp, &status);
     tokens::after(t, tokens::end(t, s.exact))
 }
 
 // All cases, up to the word `end` or whatever else is no case.
-pub fn all_cases(
-    t: &[u8],
-    scratch: &mut [u64; ENTRIES],
-    kinds: &mut [u32; ENTRIES],
-    counts: &mut [u32; ENTRIES],
-    places: &mut [u32; ENTRIES],
-    drifts: &mut [i32; ENTRIES],
-    flow: &mut [u16; ENTRIES],
-    content: &mut [u16; ENTRIES],
-    temp: &mut [i16; ENTRIES],
-    press: &mut [u32; ENTRIES],
-    status: &mut [u8; ENTRIES],
-    quantity: &mut [u32; ENTRIES],
-    factor: &mut [u32; ENTRIES],
-    outcome: &mut [u8; ENTRIES],
-    flow_used: &mut [u16; ENTRIES],
-    content_used: &mut [u16; ENTRIES],
-) {
+pub fn all_cases(t: &[u8]) {
     let mut at = 0;
     while tokens::stands(t, at, 99) {
-        let next = one_case(
-            t,
-            at,
-            scratch,
-            kinds,
-            counts,
-            places,
-            drifts,
-            flow,
-            content,
-            temp,
-            press,
-            status,
-            quantity,
-            factor,
-            outcome,
-            flow_used,
-            content_used,
-        );
+        let next = one_case(t, at);
         if next <= at {
             return;
         }

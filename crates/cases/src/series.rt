@@ -2,99 +2,70 @@
 ghost use Prim.Native.Nat.{_≤_, _<_};
 use crate::tokens;
 
-// How many entries each array of the program has: one more than a device of a year.
+// How many entries a row has at most: one more than a device of a year.
 pub const ENTRIES: usize = 35137;
 
-pub struct Row {
-    pub len: usize,
-    pub next: usize,
-}
+// Six rows of 32 bits stand one after the other in one array, and two of 16 bits in another.
+pub const WORDS: usize = 210822;
 
-fn least(a: usize, b: usize) -> usize {
+pub const HALVES: usize = 70274;
+
+fn least(a: usize, b: usize) -> usize
+    ensures { λ r. ⌜ r ≤ b ⌝ }
+{
     if a < b { a } else { b }
 }
 
-// Where a run from i ends: inside the row, and past i.
-fn run_end(i: usize, times: usize, len: usize) -> usize
-    requires { ⌜ i < len ⌝ }
-    ensures { λ r. ⌜ (i < r) × (r ≤ len) ⌝ }
+// Where the row ends whose length stands at `at`, if it begins at `from` in an array of `most` entries.
+fn row_end(t: &[u8], at: usize, from: usize, most: usize) -> usize
+    ensures { λ r. ⌜ r ≤ most ⌝ }
 {
-    if times == 0 {
-        return i + 1;
+    let n = tokens::number(t, at);
+    let len = least(n.value as usize, ENTRIES);
+    if most < from {
+        return most;
     }
-    if times < len - i { i + times } else { len }
+    if len < most - from { from + len } else { most }
 }
 
-fn put(row: &mut [u64], from: usize, to: usize, v: u64) {
+// Each of these reads the row in line `line` after `head`, its length and its runs, into the entries from `from` on, and gives its length.
+pub fn row_u8(t: &[u8], head: usize, line: u64, to: &mut [u8; ENTRIES], from: usize) -> usize {
+    let at = tokens::line_at(t, head, line);
+    let end = row_end(t, at, from, ENTRIES);
+    let mut r = tokens::before(t, at);
     let mut i = from;
-    while i < to {
-        if row.len() <= i {
-            return;
-        }
-        row[i] = v;
+    while i < end {
+        r = tokens::step(t, r);
+        to[i] = (r.value % 256) as u8;
         i += 1;
     }
+    i - from
 }
 
-// Reads a row: its length and its runs.
-pub fn fill(t: &[u8], at: usize, row: &mut [u64]) -> Row {
-    let head = tokens::number(t, at);
-    let len = least(head.value as usize, row.len());
-    let mut next = head.next;
-    let mut i = 0;
-    while i < len {
-        let r = tokens::run_at(t, tokens::after(t, next));
-        let e = run_end(i, r.times, len);
-        put(row, i, e, r.value);
-        next = r.next;
-        i = e;
-    }
-    Row {
-        len,
-        next: tokens::after(t, next),
-    }
-}
-
-pub fn to_u8(from: &[u64], n: usize, to: &mut [u8]) {
-    let mut i = 0;
-    while i < n {
-        if from.len() <= i {
-            return;
-        }
-        if to.len() <= i {
-            return;
-        }
-        to[i] = (from[i] % 256) as u8;
+pub fn row_u16(t: &[u8], head: usize, line: u64, to: &mut [u16; HALVES], from: usize) -> usize {
+    let at = tokens::line_at(t, head, line);
+    let end = row_end(t, at, from, HALVES);
+    let mut r = tokens::before(t, at);
+    let mut i = from;
+    while i < end {
+        r = tokens::step(t, r);
+        to[i] = (r.value % 65536) as u16;
         i += 1;
     }
+    i - from
 }
 
-pub fn to_u16(from: &[u64], n: usize, to: &mut [u16]) {
-    let mut i = 0;
-    while i < n {
-        if from.len() <= i {
-            return;
-        }
-        if to.len() <= i {
-            return;
-        }
-        to[i] = (from[i] % 65536) as u16;
+pub fn row_u32(t: &[u8], head: usize, line: u64, to: &mut [u32; WORDS], from: usize) -> usize {
+    let at = tokens::line_at(t, head, line);
+    let end = row_end(t, at, from, WORDS);
+    let mut r = tokens::before(t, at);
+    let mut i = from;
+    while i < end {
+        r = tokens::step(t, r);
+        to[i] = (r.value % 4294967296) as u32;
         i += 1;
     }
-}
-
-pub fn to_u32(from: &[u64], n: usize, to: &mut [u32]) {
-    let mut i = 0;
-    while i < n {
-        if from.len() <= i {
-            return;
-        }
-        if to.len() <= i {
-            return;
-        }
-        to[i] = (from[i] % 4294967296) as u32;
-        i += 1;
-    }
+    i - from
 }
 
 fn above16(m: u64) -> i16
@@ -119,19 +90,18 @@ fn signed16(v: u64) -> i16 {
     }
 }
 
-pub fn to_i16(from: &[u64], n: usize, to: &mut [i16]) {
-    let mut i = 0;
-    while i < n {
-        if from.len() <= i {
-            return;
-        }
-        if to.len() <= i {
-            return;
-        }
-        let v = signed16(from[i]);
+pub fn row_i16(t: &[u8], head: usize, line: u64, to: &mut [i16; ENTRIES], from: usize) -> usize {
+    let at = tokens::line_at(t, head, line);
+    let end = row_end(t, at, from, ENTRIES);
+    let mut r = tokens::before(t, at);
+    let mut i = from;
+    while i < end {
+        r = tokens::step(t, r);
+        let v = signed16(r.value);
         to[i] = v;
         i += 1;
     }
+    i - from
 }
 
 fn above32(m: u64) -> i32
@@ -156,19 +126,18 @@ fn signed32(v: u64) -> i32 {
     }
 }
 
-pub fn to_i32(from: &[u64], n: usize, to: &mut [i32]) {
-    let mut i = 0;
-    while i < n {
-        if from.len() <= i {
-            return;
-        }
-        if to.len() <= i {
-            return;
-        }
-        let v = signed32(from[i]);
+pub fn row_i32(t: &[u8], head: usize, line: u64, to: &mut [i32; ENTRIES], from: usize) -> usize {
+    let at = tokens::line_at(t, head, line);
+    let end = row_end(t, at, from, ENTRIES);
+    let mut r = tokens::before(t, at);
+    let mut i = from;
+    while i < end {
+        r = tokens::step(t, r);
+        let v = signed32(r.value);
         to[i] = v;
         i += 1;
     }
+    i - from
 }
 
 // What a result row holds before a call: no outcome and no value that a call could write.
@@ -180,35 +149,26 @@ fn paint16(i: usize) -> u16 {
     (i % 5000 + 60000) as u16
 }
 
-pub fn paint_u8(row: &mut [u8], n: usize) {
+pub fn paint_u8(row: &mut [u8; ENTRIES]) {
     let mut i = 0;
-    while i < n {
-        if row.len() <= i {
-            return;
-        }
+    while i < ENTRIES {
         row[i] = paint8(i);
         i += 1;
     }
 }
 
-pub fn paint_u16(row: &mut [u16], n: usize) {
+pub fn paint_u16(row: &mut [u16; ENTRIES]) {
     let mut i = 0;
-    while i < n {
-        if row.len() <= i {
-            return;
-        }
+    while i < ENTRIES {
         row[i] = paint16(i);
         i += 1;
     }
 }
 
-// Do the first n entries hold what they held?
-pub fn kept_u8(row: &[u8], n: usize) -> bool {
+// Do the entries hold what they held?
+pub fn kept_u8(row: &[u8]) -> bool {
     let mut i = 0;
-    while i < n {
-        if row.len() <= i {
-            return true;
-        }
+    while i < row.len() {
         if row[i] != paint8(i) {
             return false;
         }
@@ -217,12 +177,9 @@ pub fn kept_u8(row: &[u8], n: usize) -> bool {
     true
 }
 
-pub fn kept_u16(row: &[u16], n: usize) -> bool {
+pub fn kept_u16(row: &[u16]) -> bool {
     let mut i = 0;
-    while i < n {
-        if row.len() <= i {
-            return true;
-        }
+    while i < row.len() {
         if row[i] != paint16(i) {
             return false;
         }
@@ -231,19 +188,35 @@ pub fn kept_u16(row: &[u16], n: usize) -> bool {
     true
 }
 
+// The n entries from `at` on, or the whole row where there are not as many.
+pub fn part_u8(row: &[u8], at: usize, n: usize) -> &[u8] {
+    if at <= row.len() {
+        if n <= row.len() - at {
+            return &row[at..at + n];
+        }
+    }
+    row
+}
+
+pub fn part_u16(row: &[u16], at: usize, n: usize) -> &[u16] {
+    if at <= row.len() {
+        if n <= row.len() - at {
+            return &row[at..at + n];
+        }
+    }
+    row
+}
+
+pub fn part_u32(row: &[u32], at: usize, n: usize) -> &[u32] {
+    if at <= row.len() {
+        if n <= row.len() - at {
+            return &row[at..at + n];
+        }
+    }
+    row
+}
+
 // The first n entries, or all where there are not as many.
-pub fn first_u8(row: &[u8], n: usize) -> &[u8] {
-    if n <= row.len() { &row[..n] } else { row }
-}
-
-pub fn first_u16(row: &[u16], n: usize) -> &[u16] {
-    if n <= row.len() { &row[..n] } else { row }
-}
-
-pub fn first_u32(row: &[u32], n: usize) -> &[u32] {
-    if n <= row.len() { &row[..n] } else { row }
-}
-
 pub fn first_i16(row: &[i16], n: usize) -> &[i16] {
     if n <= row.len() { &row[..n] } else { row }
 }
@@ -258,21 +231,4 @@ pub fn lent_u8(row: &mut [u8], n: usize) -> &mut [u8] {
 
 pub fn lent_u16(row: &mut [u16], n: usize) -> &mut [u16] {
     if n <= row.len() { &mut row[..n] } else { row }
-}
-
-// The n entries from `at` on.
-pub fn part_u8(row: &[u8], at: usize, n: usize) -> &[u8] {
-    if row.len() < at {
-        row
-    } else {
-        first_u8(&row[at..], n)
-    }
-}
-
-pub fn part_u16(row: &[u16], at: usize, n: usize) -> &[u16] {
-    if row.len() < at {
-        row
-    } else {
-        first_u16(&row[at..], n)
-    }
 }

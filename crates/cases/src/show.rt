@@ -10,29 +10,24 @@ pub fn text(t: &[u8]) {
     io::write_all(STDOUT_FILENO, t);
 }
 
-fn line(key: &[u8], v: u64) {
+fn keyed(key: &[u8], v: u64) {
     text(key);
     io::print_decimal(STDOUT_FILENO, v);
+}
+
+fn line(key: &[u8], v: u64) {
+    keyed(key, v);
     text(b"\n");
 }
 
-fn spaced(v: u64) {
-    text(b" ");
-    io::print_decimal(STDOUT_FILENO, v);
-}
-
 fn all_kept(outcome: &[u8], flow_used: &[u16], content_used: &[u16]) -> u64 {
-    if !series::kept_u8(outcome, outcome.len()) {
+    if !series::kept_u8(outcome) {
         return 0;
     }
-    if !series::kept_u16(flow_used, flow_used.len()) {
+    if !series::kept_u16(flow_used) {
         return 0;
     }
-    if series::kept_u16(content_used, content_used.len()) {
-        1
-    } else {
-        0
-    }
+    if series::kept_u16(content_used) { 1 } else { 0 }
 }
 
 // A refusal, and whether every entry of the three result rows is what it was.
@@ -48,19 +43,11 @@ fn mixed(sum: u64, v: u64) -> u64 {
     (sum % 1000003 * 31 + v % 65536 + 1) % 1000003
 }
 
-fn wide8(v: u8) -> u64 {
-    v as u64
-}
-
-fn wide16(v: u16) -> u64 {
-    v as u64
-}
-
 fn checksum_u8(row: &[u8]) -> u64 {
     let mut sum: u64 = 0;
     let mut i = 0;
     while i < row.len() {
-        sum = mixed(sum, wide8(row[i]));
+        sum = mixed(sum, row[i] as u64);
         i += 1;
     }
     sum
@@ -70,7 +57,7 @@ fn checksum_u16(row: &[u16]) -> u64 {
     let mut sum: u64 = 0;
     let mut i = 0;
     while i < row.len() {
-        sum = mixed(sum, wide16(row[i]));
+        sum = mixed(sum, row[i] as u64);
         i += 1;
     }
     sum
@@ -98,77 +85,29 @@ fn count(row: &[u8], code: u8) -> u64 {
 fn counts(outcome: &[u8]) {
     let mut code: u8 = 0;
     while code < 10 {
-        spaced(count(outcome, code));
+        keyed(b" ", count(outcome, code));
         code += 1;
     }
 }
 
 // A device: how many of each outcome its row has, and its rows' checksums.
 pub fn device(d: u64, outcome: &[u8], flow_used: &[u16], content_used: &[u16]) {
-    text(b"device");
-    spaced(d);
+    keyed(b"device ", d);
     text(b" counts");
     counts(outcome);
-    text(b" sums");
-    spaced(checksum_u8(outcome));
-    spaced(checksum_u16(flow_used));
-    spaced(checksum_u16(content_used));
-    text(b"\n");
+    keyed(b" sums ", checksum_u8(outcome));
+    keyed(b" ", checksum_u16(flow_used));
+    line(b" ", checksum_u16(content_used));
 }
 
-fn fewer(left: u64, b: u8) -> u64 {
-    if b == 10 {
-        if 0 < left {
-            return left - 1;
-        }
-    }
-    left
-}
-
-// Where the line after so many lines begins.
-fn line_at(t: &[u8], lines: u64) -> usize {
-    let mut left = lines;
-    let mut i = 0;
-    while i < t.len() {
-        if left == 0 {
-            return i;
-        }
-        left = fewer(left, t[i]);
-        i += 1;
-    }
-    i
-}
-
-// A signed number of milligrams as 10^18 more than it is, so that it is not negative.
-fn lifted(minus: bool, mg: u64) -> u64 {
-    if 1000000000000000000 < mg {
-        0
-    } else if minus {
-        1000000000000000000 - mg
-    } else {
-        1000000000000000000 + mg
-    }
-}
-
-fn exact_mg(t: &[u8], at: usize) -> u64 {
-    let minus = tokens::stands(t, at, 45);
-    let start = if minus { tokens::after(t, at) } else { at };
-    let n = tokens::number(t, start);
-    lifted(minus, n.value)
-}
-
-// The milligrams of a sheet's tonnes, as it is written in line 14.
+// The milligrams of a sheet's tonnes, as it is written in line 14, and 10^18 more.
 fn reported_mg(t: &[u8]) -> u64 {
-    let line = line_at(t, 13);
-    let at = tokens::after_key(t, line);
-    let minus = tokens::stands(t, at, 45);
-    let start = if minus { tokens::after(t, at) } else { at };
-    let n = tokens::number(t, start);
-    let v = n.value;
-    if 1000000000 < v {
-        return 0;
-    }
-    lifted(minus, v * 1000000000)
+    let tonnes = tokens::signed(
+        t,
+        tokens::after_key(t, tokens::line_at(t, 0, 13)),
+        1000000000,
+    );
+    tonnes.value * 1000000000
 }
 
 // Demand 3: a tonne, 25 grams for each counted interval of a device and 13 grams for each device.
@@ -206,33 +145,32 @@ pub fn sheet(f: Figures, t: &[u8], at: usize) -> Nearness {
     let WriteAnswer::Written(n) = a else {
         return near_to(0, 1, 0);
     };
-    let s = series::first_u8(&buf, n);
+    let s = series::part_u8(&buf, 0, n);
     text(s);
+    let exact = tokens::signed(t, at, 1000000000000000000);
     near_to(
-        exact_mg(t, at),
+        exact.value,
         reported_mg(s),
         allowed_mg(f.counted, f.devices),
     )
 }
 
+// The token at `at`.
+fn token(t: &[u8], at: usize) {
+    text(series::part_u8(t, at, tokens::end(t, at) - at));
+}
+
 // The exact milligrams as the input has them, and the two halves of demand 3.
 pub fn exact(t: &[u8], at: usize, near: Nearness) {
     text(b"exact_mg=");
-    let e = tokens::end(t, at);
-    if at <= e {
-        text(series::part_u8(t, at, e - at));
-    }
-    text(b" above=");
-    io::print_decimal(STDOUT_FILENO, near.above);
-    text(b" distance=");
-    io::print_decimal(STDOUT_FILENO, near.distance);
+    token(t, at);
+    keyed(b" above=", near.above);
+    keyed(b" distance=", near.distance);
     line(b" below=", near.below);
 }
 
-pub fn name(t: &[u8], from: usize, to: usize) {
+pub fn name(t: &[u8], at: usize) {
     text(b"case ");
-    if from <= to {
-        text(series::part_u8(t, from, to - from));
-    }
+    token(t, at);
     text(b"\n");
 }

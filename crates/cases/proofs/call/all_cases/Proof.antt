@@ -6,12 +6,10 @@ use Rattle.cases.proofs.call.all_cases.Statement.{statement}
 use Rattle.cases.proofs.call.all_cases.Tie as tie
 
 abbrev Inv-loop : tie.InvT-loop
-Inv-loop t scratch₀ kinds₀ counts₀ places₀ drifts₀ flow₀ content₀ temp₀ press₀ status₀ quantity₀ factor₀ outcome₀ flow-used₀ content-used₀ at₀ t19 scratch kinds counts places drifts flow content temp press status quantity factor outcome flow-used content-used at =
-    0 ≤ at
+Inv-loop t at₀ t4 at = 0 ≤ at
 
 abbrev μ-loop : tie.MeasureT-loop
-μ-loop t scratch₀ kinds₀ counts₀ places₀ drifts₀ flow₀ content₀ temp₀ press₀ status₀ quantity₀ factor₀ outcome₀ flow-used₀ content-used₀ at₀ t19 scratch kinds counts places drifts flow content temp press status quantity factor outcome flow-used content-used at =
-    length t - at
+μ-loop t at₀ t4 at = length t - at
 
 loop-holds : tie.Need-loop-holds Inv-loop μ-loop
 loop-holds c = search needs

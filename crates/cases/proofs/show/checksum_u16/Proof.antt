@@ -2,6 +2,7 @@
 use Prim.Native.Nat.{_≤_, _-_}
 use borrow.Author.Needs.{needs}
 use lib.ListN.{length}
+use native.Mathlib.Omega.{arith}
 use Rattle.cases.proofs.show.checksum_u16.Statement.{statement}
 use Rattle.cases.proofs.show.checksum_u16.Tie as tie
 
@@ -14,14 +15,14 @@ abbrev μ-loop : tie.MeasureT-loop
 loop-holds : tie.Need-loop-holds Inv-loop μ-loop
 loop-holds c = search needs
 
-mul-wide16 : tie.Need-mul-wide16 Inv-loop μ-loop
-mul-wide16 c = search needs
+mul-mixed : tie.Need-mul-mixed Inv-loop μ-loop
+mul-mixed c = search needs
 
-shared-slice-read-wide16 : tie.Need-shared-slice-read-wide16 Inv-loop μ-loop
-shared-slice-read-wide16 c = search needs
+shared-slice-read-mixed : tie.Need-shared-slice-read-mixed Inv-loop μ-loop
+shared-slice-read-mixed c = search needs
 
-wide16-requires : tie.Need-wide16-requires Inv-loop μ-loop
-wide16-requires c κs = search needs
+cast-mixed : tie.Need-cast-mixed Inv-loop μ-loop
+cast-mixed c = record { fits = omega (arith, c .shared-slice-known2 .given (c .before .before .loop .i)) }
 
 mixed-requires : tie.Need-mixed-requires Inv-loop μ-loop
 mixed-requires c κs = search needs
@@ -45,9 +46,9 @@ checksum-u16-spec =
     Inv-loop
     μ-loop
     loop-holds
-    mul-wide16
-    shared-slice-read-wide16
-    wide16-requires
+    mul-mixed
+    shared-slice-read-mixed
+    cast-mixed
     mixed-requires
     add-i
     loop-less

@@ -2,6 +2,7 @@
 use Prim.Native.Nat.{_≤_, _-_}
 use borrow.Author.Needs.{needs}
 use lib.ListN.{length}
+use native.Mathlib.Omega.{arith}
 use Rattle.cases.proofs.show.checksum_u8.Statement.{statement}
 use Rattle.cases.proofs.show.checksum_u8.Tie as tie
 
@@ -14,11 +15,11 @@ abbrev μ-loop : tie.MeasureT-loop
 loop-holds : tie.Need-loop-holds Inv-loop μ-loop
 loop-holds c = search needs
 
-shared-slice-read-wide8 : tie.Need-shared-slice-read-wide8 Inv-loop μ-loop
-shared-slice-read-wide8 c = search needs
+shared-slice-read-mixed : tie.Need-shared-slice-read-mixed Inv-loop μ-loop
+shared-slice-read-mixed c = search needs
 
-wide8-requires : tie.Need-wide8-requires Inv-loop μ-loop
-wide8-requires c κs = search needs
+cast-mixed : tie.Need-cast-mixed Inv-loop μ-loop
+cast-mixed c = record { fits = omega (arith, c .shared-slice-known2 .given (c .before .before .loop .i)) }
 
 mixed-requires : tie.Need-mixed-requires Inv-loop μ-loop
 mixed-requires c κs = search needs
@@ -42,8 +43,8 @@ checksum-u8-spec =
     Inv-loop
     μ-loop
     loop-holds
-    shared-slice-read-wide8
-    wide8-requires
+    shared-slice-read-mixed
+    cast-mixed
     mixed-requires
     add-i
     loop-less

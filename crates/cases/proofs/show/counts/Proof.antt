@@ -5,19 +5,22 @@ use Rattle.cases.proofs.show.counts.Statement.{statement}
 use Rattle.cases.proofs.show.counts.Tie as tie
 
 abbrev Inv-loop : tie.InvT-loop
-Inv-loop outcome code₀ code = 0 ≤ code
+Inv-loop outcome code₀ t3 code = 0 ≤ code
 
 abbrev μ-loop : tie.MeasureT-loop
-μ-loop outcome code₀ code = 10 - code
+μ-loop outcome code₀ t3 code = 10 - code
 
 loop-holds : tie.Need-loop-holds Inv-loop μ-loop
 loop-holds c = search needs
 
+slice-aggregate-keyed : tie.Need-slice-aggregate-keyed Inv-loop μ-loop
+slice-aggregate-keyed c = search needs
+
 count-requires : tie.Need-count-requires Inv-loop μ-loop
 count-requires c κs = search needs
 
-spaced-requires : tie.Need-spaced-requires Inv-loop μ-loop
-spaced-requires c κs = search needs
+keyed-requires : tie.Need-keyed-requires Inv-loop μ-loop
+keyed-requires c κs = search needs
 
 add-code : tie.Need-add-code Inv-loop μ-loop
 add-code c = search needs
@@ -38,8 +41,9 @@ counts-spec =
     Inv-loop
     μ-loop
     loop-holds
+    slice-aggregate-keyed
     count-requires
-    spaced-requires
+    keyed-requires
     add-code
     loop-less
     loop-again

@@ -6,7 +6,7 @@ use Rattle.cases.proofs.tokens.end.Statement.{statement}
 use Rattle.cases.proofs.tokens.end.Tie as tie
 
 abbrev Inv-loop : tie.InvT-loop
-Inv-loop t at i₀ i = 0 ≤ i
+Inv-loop t at i₀ i = at ≤ i
 
 abbrev μ-loop : tie.MeasureT-loop
 μ-loop t at i₀ i = length t - i
@@ -18,7 +18,7 @@ shared-slice-read-if1 : tie.Need-shared-slice-read-if1 Inv-loop μ-loop
 shared-slice-read-if1 c = search needs
 
 returns : tie.Need-returns Inv-loop μ-loop
-returns c = search needs
+returns c = c .before .before .before .loop .inv
 
 add-i : tie.Need-add-i Inv-loop μ-loop
 add-i c = search needs
@@ -30,7 +30,7 @@ loop-again : tie.Need-loop-again Inv-loop μ-loop
 loop-again c = search needs
 
 returns-2 : tie.Need-returns-2 Inv-loop μ-loop
-returns-2 c = search needs
+returns-2 c = c .before .loop .inv
 
 pub end-spec : {M : Type 1} → statement M
 end-spec =

@@ -1,15 +1,15 @@
--- `cases::show::line_at` is safe and ends. Assumes nothing.
+-- `cases::tokens::line_at` is safe and ends. Assumes nothing.
 use Prim.Native.Nat.{_≤_, _-_}
 use borrow.Author.Needs.{needs}
 use lib.ListN.{length}
-use Rattle.cases.proofs.show.line_at.Statement.{statement}
-use Rattle.cases.proofs.show.line_at.Tie as tie
+use Rattle.cases.proofs.tokens.line_at.Statement.{statement}
+use Rattle.cases.proofs.tokens.line_at.Tie as tie
 
 abbrev Inv-loop : tie.InvT-loop
-Inv-loop t lines left₀ i₀ left i = 0 ≤ i
+Inv-loop t from lines left₀ i₀ left i = 0 ≤ i
 
 abbrev μ-loop : tie.MeasureT-loop
-μ-loop t lines left₀ i₀ left i = length t - i
+μ-loop t from lines left₀ i₀ left i = length t - i
 
 loop-holds : tie.Need-loop-holds Inv-loop μ-loop
 loop-holds c = search needs
