@@ -46,11 +46,11 @@ pub record SameKey (t : List ℕ) (start : ℕ) (key : List ℕ) (r : Bool) : Ty
 abbrev pub wordAt : List ℕ → ℕ → ℕ
 wordAt t p = getD t p 0 + 256 * getD t (p + 1) 0 + 65536 * getD t (p + 2) 0 + 16777216 * getD t (p + 3) 0
 
--- b is not the byte of a digit, or is one
-pub record NoDigit (b : ℕ) (r : Bool) : Type 0 where
-  pub low : r ≡ false → 48 ≤ b
-  pub high : r ≡ false → b ≤ 57
-  pub other : r ≡ true → 48 ≤ b → b ≤ 57 → ⊥
+-- b is the byte of a digit, or is not
+pub record DigitTold (b : ℕ) (r : Bool) : Type 0 where
+  pub low : r ≡ true → 48 ≤ b
+  pub high : r ≡ true → b ≤ 57
+  pub other : r ≡ false → 48 ≤ b → b ≤ 57 → ⊥
 
 -- w was written from `start`, where the buffer has room, nothing else changed, and `stop` is the place after it.
 pub record Put (old : List ℕ) (start : ℕ) (w new : List ℕ) (stop : ℕ) : Type 0 where

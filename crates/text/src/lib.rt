@@ -7,7 +7,7 @@ ghost use lib.ListN.{length};
 ghost use lib.IntN.{negsuc};
 ghost use Rattle.text.specs.Decimal.{number, plain, signed};
 ghost use Rattle.text.specs.Line.{line};
-ghost use Rattle.text.specs.Answer.{NaturalIn, WholeIn, wrongAt, wholeWrongAt, Matched, SameKey, wordAt, NoDigit, Asked, AskedSigned};
+ghost use Rattle.text.specs.Answer.{NaturalIn, WholeIn, wrongAt, wholeWrongAt, Matched, SameKey, wordAt, DigitTold, Asked, AskedSigned};
 
 // An unsigned number and the place after it, or the place of the first byte that cannot stand there.
 pub enum Natural {
@@ -117,11 +117,11 @@ fn word(t: &[u8], p: usize) -> u64
     t[p] as u64 + 256 * t[p + 1] as u64 + 65536 * t[p + 2] as u64 + 16777216 * t[p + 3] as u64
 }
 
-// Whether b is no digit's byte. Rules out: 47 or 58 taken for a digit; 48 or 57 for none.
-fn no_digit(b: u8) -> bool
-    ensures { λ r. ⌜ NoDigit b r ⌝ }
+// Whether b is a digit's byte. Rules out: 47 or 58 taken for a digit; 48 or 57 for none.
+fn digit(b: u8) -> bool
+    ensures { λ r. ⌜ DigitTold b r ⌝ }
 {
-    b < 48 || b > 57
+    b >= 48 && b <= 57
 }
 
 // Whether 10 v + d, which may be too large for 64 bits, is above `most`. Rules out: the border itself; a sum that wraps.
@@ -144,7 +144,7 @@ pub fn read_natural(t: &[u8], start: usize, least: u64, most: u64, end: u8) -> N
         return Natural::Wrong(start);
     }
     let first = t[start];
-    if no_digit(first) {
+    if !digit(first) {
         return Natural::Wrong(start);
     }
     let mut v = (first - 48) as u64;
@@ -167,7 +167,7 @@ pub fn read_natural(t: &[u8], start: usize, least: u64, most: u64, end: u8) -> N
     let safe = most / 10;
     while i < t.len() {
         let b = t[i];
-        if no_digit(b) {
+        if !digit(b) {
             if b == end {
                 return Natural::Value(v, i + 1);
             }

@@ -4,7 +4,7 @@ use native.Mathlib.Omega.{arith}
 use mathlib.Core.List.{List}
 use mathlib.Core.Path.{_≡_, sym, _∙_}
 use mathlib.Core.Logic.{inl, inr, ⊎-elim}
-use borrow.Author.Tests.{ltb-true, ltb-false}
+use borrow.Author.Tests.{ltb-true, ltb-false, not-true, not-false}
 use lib.ListN.{length, getD}
 use denote.Ref.{now}
 use Rattle.text.specs.Form.{Of, Stands, Broken}
@@ -43,17 +43,17 @@ returns c =
 shared-slice-read-first : tie.Need-shared-slice-read-first Inv-loop μ-loop
 shared-slice-read-first c = omega arith
 
-no-digit-requires : tie.Need-no-digit-requires Inv-loop μ-loop
-no-digit-requires c κs = tt
+digit-requires : tie.Need-digit-requires Inv-loop μ-loop
+digit-requires c κs = tt
 
 returns-2 : tie.Need-returns-2 Inv-loop μ-loop
 returns-2 c =
     let a = c .before .before .before .before .before .args in
     broken-first (now (a .t)) (a .start) (a .least) (a .most) (a .end) (c .before .before .before .before .before .pre .range) (c .before .before .before .before .before .pre .low) (c .before .before .before .before .before .pre .within)
-    (λ inside g. absurd (c .before .no-digit .ensures .other (c .if2 .taken) (g .low) (g .high)))
+    (λ inside g. absurd (c .before .digit .ensures .other (not-true _ (c .if2 .taken)) (g .low) (g .high)))
 
 first-is : (c : tie.Else2 Inv-loop μ-loop) → Digit (getD (now (c .before .before .before .before .before .args .t)) (c .before .before .before .before .before .args .start) 0)
-first-is c = record { low = c .before .no-digit .ensures .low (c .if2 .left); high = c .before .no-digit .ensures .high (c .if2 .left) }
+first-is c = record { low = c .before .digit .ensures .low (not-false _ (c .if2 .left)); high = c .before .digit .ensures .high (not-false _ (c .if2 .left)) }
 
 sub-v : tie.Need-sub-v Inv-loop μ-loop
 sub-v c = first-is c .low
@@ -120,8 +120,8 @@ loop-holds c =
 shared-slice-read-b : tie.Need-shared-slice-read-b Inv-loop μ-loop
 shared-slice-read-b c = omega arith
 
-no-digit-requires-2 : tie.Need-no-digit-requires-2 Inv-loop μ-loop
-no-digit-requires-2 c κs = tt
+digit-requires-2 : tie.Need-digit-requires-2 Inv-loop μ-loop
+digit-requires-2 c κs = tt
 
 add-t29 : tie.Need-add-t29 Inv-loop μ-loop
 add-t29 c = omega arith
@@ -136,10 +136,10 @@ returns-8 c =
     }
 
 returns-9 : tie.Need-returns-9 Inv-loop μ-loop
-returns-9 c = breaks (c .before .before .before .before .before .loop .inv) (λ inside e. c .if9 .left e) (λ inside g. absurd (c .before .before .no-digit2 .ensures .other (c .before .if8 .taken) (g .low) (g .high)))
+returns-9 c = breaks (c .before .before .before .before .before .loop .inv) (λ inside e. c .if9 .left e) (λ inside g. absurd (c .before .before .digit2 .ensures .other (not-true _ (c .before .if8 .taken)) (g .low) (g .high)))
 
 next-is : (c : tie.Else8 Inv-loop μ-loop) → Digit (getD (now (c .before .before .before .before .before .before .before .before .before .before .before .before .before .args .t)) (c .before .before .before .before .loop .i) 0)
-next-is c = record { low = c .before .no-digit2 .ensures .low (c .if8 .left); high = c .before .no-digit2 .ensures .high (c .if8 .left) }
+next-is c = record { low = c .before .digit2 .ensures .low (not-false _ (c .if8 .left)); high = c .before .digit2 .ensures .high (not-false _ (c .if8 .left)) }
 
 sub-d : tie.Need-sub-d Inv-loop μ-loop
 sub-d c = next-is c .low
@@ -194,7 +194,7 @@ read-natural-spec =
     μ-loop
     returns
     shared-slice-read-first
-    no-digit-requires
+    digit-requires
     returns-2
     sub-v
     cast-v
@@ -208,7 +208,7 @@ read-natural-spec =
     returns-7
     loop-holds
     shared-slice-read-b
-    no-digit-requires-2
+    digit-requires-2
     add-t29
     returns-8
     returns-9
