@@ -17,7 +17,7 @@ use Rattle.text.specs.declared.Whole.the-variants as Whole
 use Rattle.text.specs.Form.{Form, Of, ReadAs, Broken, RefusedAt}
 use Rattle.text.specs.Decimal.{Range, Fit, plain}
 use Rattle.text.specs.Line.{Entry, lineOf, line, linesOf, AllFit, lines}
-use Rattle.text.specs.Answer.{Put, NaturalIn, WholeIn, wrongAt, wholeWrongAt, Asked, AskedSigned}
+use Rattle.text.specs.Answer.{Put, NaturalIn, WholeIn, wrongAt, wholeWrongAt, AskedSigned}
 use Rattle.text.proofs.Natural as NaturalType
 use Rattle.text.proofs.Whole as WholeType
 use Rattle.text.proofs.Forms.{refused-alike}
@@ -340,10 +340,7 @@ put-short f old mid n same size short most = record {
   is = same;
 }
 
--- ---- what the readers of lines are asked
-
-pub asked : {t : List ℕ} {p : ℕ} → p ≤ length t → Asked t p 0 18446744073709551615 10
-asked h = record { within = h; low = omega arith; range = omega arith; stop = omega arith }
+-- ---- what the reader of a signed line is asked
 
 pub asked-signed : {t : List ℕ} {p : ℕ} → p ≤ length t → AskedSigned t p 9223372036854775808 9223372036854775807 10
 asked-signed h = record { within = h; some = omega arith; negative = omega arith; positive = omega arith; stop = omega arith }

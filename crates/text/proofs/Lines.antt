@@ -15,8 +15,12 @@ use Rattle.text.specs.declared.Whole.the-variants as Whole
 use Rattle.text.specs.Form.{Form, Of, ReadAs, Broken}
 use Rattle.text.specs.Decimal.{Range, number}
 use Rattle.text.specs.Line.{line}
-use Rattle.text.specs.Answer.{NaturalIn, WholeIn, wrongAt, wholeWrongAt, Matched}
+use Rattle.text.specs.Answer.{NaturalIn, WholeIn, wrongAt, wholeWrongAt, Matched, Asked}
 use Rattle.text.proofs.Numbers.{line-read, line-broken}
+
+-- What the reader of an unsigned line is asked, at any place of the text.
+pub line-asked : {t : List ℕ} {p most : ℕ} → p ≤ length t → Asked t p 0 most 10
+line-asked h = record { within = h; low = omega arith; range = omega arith; stop = omega arith }
 
 -- What an answer says once its case is known.
 module _ (f : Form ℤ) (t : List ℕ) (i : ℕ) where

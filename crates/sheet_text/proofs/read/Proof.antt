@@ -11,7 +11,8 @@ use Rattle.text.specs.Form.{ReadAs}
 use Rattle.text.specs.Line.{lines}
 use Rattle.sheet_text.specs.Sheet.{schema, valuesOf}
 use Rattle.sheet_text.specs.Read.{volumesOf}
-use Rattle.sheet_text.proofs.Steps.{natural-step, whole-step, whole-fit, natural-refused, whole-refused, head-read, head-refused, read-past, read-all, asked, asked-signed, signed-back}
+use Rattle.text.proofs.Lines.{line-asked}
+use Rattle.sheet_text.proofs.Steps.{natural-step, whole-step, whole-fit, natural-refused, whole-refused, head-read, head-refused, read-past, read-all, asked-signed, signed-back}
 use Rattle.sheet_text.proofs.read.Statement.{statement}
 use Rattle.sheet_text.proofs.read.Tie as tie
 
@@ -119,7 +120,7 @@ slice-aggregate-read-line : tie.Need-slice-aggregate-read-line
 slice-aggregate-read-line c = refl
 
 read-line-requires : tie.Need-read-line-requires
-read-line-requires c κs = asked (fact8 (c .before) .stands .within)
+read-line-requires c κs = line-asked (fact8 (c .before) .stands .within)
 
 enum-known-a9 : tie.Need-enum-known-a9
 enum-known-a9 c = c .match2 .keys1
@@ -138,7 +139,7 @@ slice-aggregate-read-line-2 : tie.Need-slice-aggregate-read-line-2
 slice-aggregate-read-line-2 c = refl
 
 read-line-requires-2 : tie.Need-read-line-requires-2
-read-line-requires-2 c κs = asked (fact9 (c .before) .stands .within)
+read-line-requires-2 c κs = line-asked (fact9 (c .before) .stands .within)
 
 enum-known-a10 : tie.Need-enum-known-a10
 enum-known-a10 c = c .match3 .keys1
@@ -157,7 +158,7 @@ slice-aggregate-read-line-3 : tie.Need-slice-aggregate-read-line-3
 slice-aggregate-read-line-3 c = refl
 
 read-line-requires-3 : tie.Need-read-line-requires-3
-read-line-requires-3 c κs = asked (fact10 (c .before) .stands .within)
+read-line-requires-3 c κs = line-asked (fact10 (c .before) .stands .within)
 
 enum-known-a11 : tie.Need-enum-known-a11
 enum-known-a11 c = c .match4 .keys1
@@ -176,7 +177,7 @@ slice-aggregate-read-line-4 : tie.Need-slice-aggregate-read-line-4
 slice-aggregate-read-line-4 c = refl
 
 read-line-requires-4 : tie.Need-read-line-requires-4
-read-line-requires-4 c κs = asked (fact11 (c .before) .stands .within)
+read-line-requires-4 c κs = line-asked (fact11 (c .before) .stands .within)
 
 enum-known-a12 : tie.Need-enum-known-a12
 enum-known-a12 c = c .match5 .keys1
@@ -233,7 +234,7 @@ slice-aggregate-read-line-5 : tie.Need-slice-aggregate-read-line-5
 slice-aggregate-read-line-5 c = refl
 
 read-line-requires-5 : tie.Need-read-line-requires-5
-read-line-requires-5 c κs = asked (fact14 (c .before) .stands .within)
+read-line-requires-5 c κs = line-asked (fact14 (c .before) .stands .within)
 
 enum-known-a15 : tie.Need-enum-known-a15
 enum-known-a15 c = c .match8 .keys1

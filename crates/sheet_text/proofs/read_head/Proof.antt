@@ -10,7 +10,8 @@ use Rattle.text.specs.Line.{lines}
 use Rattle.text.proofs.Tables.{lines-none}
 use Rattle.sheet_text.specs.Sheet.{schema}
 use Rattle.sheet_text.specs.Read.{volumesOf}
-use Rattle.sheet_text.proofs.Steps.{natural-step, natural-refused, asked}
+use Rattle.text.proofs.Lines.{line-asked}
+use Rattle.sheet_text.proofs.Steps.{natural-step, natural-refused}
 use Rattle.sheet_text.proofs.read_head.Statement.{statement}
 use Rattle.sheet_text.proofs.read_head.Tie as tie
 
@@ -102,7 +103,7 @@ slice-aggregate-read-line : tie.Need-slice-aggregate-read-line
 slice-aggregate-read-line c = refl
 
 read-line-requires : tie.Need-read-line-requires
-read-line-requires c κs = asked (fact0 (c .before .before) .stands .within)
+read-line-requires c κs = line-asked (fact0 (c .before .before) .stands .within)
 
 enum-known-a1 : tie.Need-enum-known-a1
 enum-known-a1 c = c .match .keys1
@@ -121,7 +122,7 @@ slice-aggregate-read-line-2 : tie.Need-slice-aggregate-read-line-2
 slice-aggregate-read-line-2 c = refl
 
 read-line-requires-2 : tie.Need-read-line-requires-2
-read-line-requires-2 c κs = asked (fact1 (c .before) .stands .within)
+read-line-requires-2 c κs = line-asked (fact1 (c .before) .stands .within)
 
 enum-known-a2 : tie.Need-enum-known-a2
 enum-known-a2 c = c .match2 .keys1
@@ -140,7 +141,7 @@ slice-aggregate-read-line-3 : tie.Need-slice-aggregate-read-line-3
 slice-aggregate-read-line-3 c = refl
 
 read-line-requires-3 : tie.Need-read-line-requires-3
-read-line-requires-3 c κs = asked (fact2 (c .before) .stands .within)
+read-line-requires-3 c κs = line-asked (fact2 (c .before) .stands .within)
 
 enum-known-a3 : tie.Need-enum-known-a3
 enum-known-a3 c = c .match3 .keys1
@@ -159,7 +160,7 @@ slice-aggregate-read-line-4 : tie.Need-slice-aggregate-read-line-4
 slice-aggregate-read-line-4 c = refl
 
 read-line-requires-4 : tie.Need-read-line-requires-4
-read-line-requires-4 c κs = asked (fact3 (c .before) .stands .within)
+read-line-requires-4 c κs = line-asked (fact3 (c .before) .stands .within)
 
 enum-known-a4 : tie.Need-enum-known-a4
 enum-known-a4 c = c .match4 .keys1
@@ -178,7 +179,7 @@ slice-aggregate-read-line-5 : tie.Need-slice-aggregate-read-line-5
 slice-aggregate-read-line-5 c = refl
 
 read-line-requires-5 : tie.Need-read-line-requires-5
-read-line-requires-5 c κs = asked (fact4 (c .before) .stands .within)
+read-line-requires-5 c κs = line-asked (fact4 (c .before) .stands .within)
 
 enum-known-a5 : tie.Need-enum-known-a5
 enum-known-a5 c = c .match5 .keys1
@@ -197,7 +198,7 @@ slice-aggregate-read-line-6 : tie.Need-slice-aggregate-read-line-6
 slice-aggregate-read-line-6 c = refl
 
 read-line-requires-6 : tie.Need-read-line-requires-6
-read-line-requires-6 c κs = asked (fact5 (c .before) .stands .within)
+read-line-requires-6 c κs = line-asked (fact5 (c .before) .stands .within)
 
 enum-known-a6 : tie.Need-enum-known-a6
 enum-known-a6 c = c .match6 .keys1
@@ -216,7 +217,7 @@ slice-aggregate-read-line-7 : tie.Need-slice-aggregate-read-line-7
 slice-aggregate-read-line-7 c = refl
 
 read-line-requires-7 : tie.Need-read-line-requires-7
-read-line-requires-7 c κs = asked (fact6 (c .before) .stands .within)
+read-line-requires-7 c κs = line-asked (fact6 (c .before) .stands .within)
 
 enum-known-a7 : tie.Need-enum-known-a7
 enum-known-a7 c = c .match7 .keys1
@@ -235,7 +236,7 @@ slice-aggregate-read-line-8 : tie.Need-slice-aggregate-read-line-8
 slice-aggregate-read-line-8 c = refl
 
 read-line-requires-8 : tie.Need-read-line-requires-8
-read-line-requires-8 c κs = asked (fact7 (c .before) .stands .within)
+read-line-requires-8 c κs = line-asked (fact7 (c .before) .stands .within)
 
 enum-known-a8 : tie.Need-enum-known-a8
 enum-known-a8 c = c .match8 .keys1
