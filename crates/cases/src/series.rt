@@ -10,6 +10,19 @@ pub const WORDS: usize = 210822;
 
 pub const HALVES: usize = 70274;
 
+// Where the rows begin there: kinds and flow at 0, the others a row's length apart.
+pub const COUNTS: usize = 35137;
+
+pub const PLACES: usize = 70274;
+
+pub const PRESS: usize = 105411;
+
+pub const QUANTITY: usize = 140548;
+
+pub const FACTOR: usize = 175685;
+
+pub const CONTENT: usize = 35137;
+
 fn least(a: usize, b: usize) -> usize
     ensures { λ r. ⌜ r ≤ b ⌝ }
 {

@@ -9,13 +9,12 @@ use lib.ListN.{length, getD}
 use Rattle.rows.specs.Rows.{both, either}
 use Rattle.protocol.specs.Ranges.{checksMost, fuelsMost, driftRight}
 
--- "3 | a lent slice, result rows included, isn't exactly as long as N and D ask, or the fuel slices differ": the lengths that D, N and the number of
--- quantities ask, in the order of the parameters
+-- the lengths that D, N and the number of quantities ask for: of kinds, counts, places and drifts, of the five series, of the three result rows, of the factors
 abbrev pub wantedFor : ℕ → ℕ → ℕ → List ℕ
 wantedFor d n fuels =
     d ∷ 2 * d ∷ 64 * d ∷ 64 * d ∷ d * n ∷ d * n ∷ d * n ∷ d * n ∷ d * n ∷ d * n ∷ d * n ∷ d * n ∷ fuels ∷ []
 
--- "7 | a check count, position or drift is wrong". Instrument g of all, flow before CH4 and device 0 first, has its 32 places
+-- Instrument g of all, flow before CH4 and device 0 first, has its 32 places
 -- from 32 g on. Check j of it: "a position 0..N", "a drift in 0.01 %, -9,000..20,000", "Positions strictly increase", and "of
 -- two positions that don't increase the later" offends.
 unfoldable pub wrongCheck : ℕ → List ℕ → List ℤ → ℕ → ℕ → Bool
@@ -35,7 +34,7 @@ abbrev pub thingPlace : ℕ → ℕ → ℕ
 thingPlace last zero = last
 thingPlace last (suc j) = j
 
--- "9 | over 64 fuel lines, or a number outside its range": thing 0 is their count, thing j + 1 is line j, "quantity in
+-- Of the fuel lines thing 0 is their count, "over 64", and thing j + 1 is line j, "quantity in
 -- thousandths of a unit 0..1,000,000,000 and factor in grams CO2 per unit 0..4,000,000"
 unfoldable pub wrongFuel : List ℕ → List ℕ → ℕ → Bool
 wrongFuel quantity factor zero = ltb fuelsMost (length quantity)

@@ -132,6 +132,7 @@ pub fn first_wrong_fuel(quantity: &[u32], factor: &[u32]) -> usize
     j + 1
 }
 
+// The place of thing t, where thing 0 is a count. Ruled out: 0 for a count; t itself for an entry.
 pub fn thing_place(last: usize, t: usize) -> usize
     ensures { λ r. ⌜ r ≡ thingPlace last t ⌝ }
 {

@@ -39,6 +39,8 @@ abbrev pub ReadRight : List ℕ → ReadAnswer → Type 0
 ReadRight t (ReadAnswer.Sheet f) = Accepted t f
 ReadRight t (ReadAnswer.NoSheet k) = Refused t (ReadAnswer.NoSheet k)
 
+-- ---- the reader's first part. Nobody has to believe this: the promise of the whole reader is ReadRight alone.
+
 -- The values of a sheet's first eight lines.
 unfoldable pub volumesOf : Volumes → List ℤ
 volumesOf v =
