@@ -14,6 +14,7 @@ use Rattle.rows.specs.Rows.{both, either, FirstOf}
 use Rattle.rows.proofs.Laws.{both-true}
 use Rattle.protocol.specs.Kinds.{isKind, misplaced}
 use Rattle.protocol.specs.Ranges.{flowRight, contentRight, tempRight, pressRight, statusRight, driftRight}
+use Rattle.series.specs.Series.{InRange}
 use Rattle.readings.specs.Readings.{wrongReading}
 use Rattle.scans.specs.Wrong.{wrongCheck, wrongThing, wrongFuel}
 use Rattle.checks.specs.Call.{Call}
@@ -42,16 +43,9 @@ bare c =
       devices = c .devices;
       mine = c .mine;
       kinds = c .kinds;
-      counts = c .counts;
-      places = c .places;
-      drifts = c .drifts;
-      flow = c .flow;
-      content = c .content;
-      temp = c .temp;
-      press = c .press;
-      status = c .status;
-      quantity = c .quantity;
-      factor = c .factor;
+      checks = c .checks;
+      series = c .series;
+      fuel = c .fuel;
       outcome-length = 0;
       flow-row-length = 0;
       content-row-length = 0;
@@ -70,14 +64,8 @@ bare-shaped c s =
       devices-least = s .devices-least;
       devices-most = s .devices-most;
       kinds-long = s .kinds-long;
-      counts-long = s .counts-long;
-      places-long = s .places-long;
-      drifts-long = s .drifts-long;
-      flow-long = s .flow-long;
-      content-long = s .content-long;
-      temp-long = s .temp-long;
-      press-long = s .press-long;
-      status-long = s .status-long;
+      roomy = s .roomy;
+      long = s .long;
       factor-long = s .factor-long;
     }
 
@@ -92,14 +80,15 @@ module _ (c : Call) (same : (k : ℕ) → k < 13 → getD (lengthsOf c) k 0 ≡ 
         devices-least = within-least _ _ d;
         devices-most = within-most _ _ d;
         kinds-long = same 0 (omega arith);
-        counts-long = same 1 (omega arith);
-        places-long = same 2 (omega arith);
-        drifts-long = same 3 (omega arith);
-        flow-long = same 4 (omega arith);
-        content-long = same 5 (omega arith);
-        temp-long = same 6 (omega arith);
-        press-long = same 7 (omega arith);
-        status-long = same 8 (omega arith);
+        roomy = record { counts = same 1 (omega arith); places = same 2 (omega arith); drifts = same 3 (omega arith) };
+        long =
+            record {
+              flow = same 4 (omega arith);
+              content = same 5 (omega arith);
+              temp = same 6 (omega arith);
+              press = same 7 (omega arith);
+              status = same 8 (omega arith);
+            };
         factor-long = same 12 (omega arith);
       }
 
@@ -167,63 +156,55 @@ module _ (c : Call) where
 
 -- thing t of instrument g
 module _ (c : Call) (x : Clear (checksStep c)) (g : ℕ) (h : g < 2 * c .devices) where
-  thing-clear : (t : ℕ) → t < 33 → wrongThing (c .intervals) (c .counts) (c .places) (c .drifts) g t ≡ false
+  thing-clear : (t : ℕ) → t < 33 → wrongThing (c .intervals) (c .checks) g t ≡ false
   unfolding checksStep
   thing-clear t l =
-      ap₂ (wrongThing (c .intervals) (c .counts) (c .places) (c .drifts))
+      ap₂ (wrongThing (c .intervals) (c .checks))
       (sym (mul-add-div {m = 33} (omega arith) g t ∙ ap (λ (q : ℕ). g + q) (div-eq-of-lt l) ∙ (let z : g + 0 ≡ g = omega arith in z)))
       (sym (mul-add-mod-self-left 33 g t ∙ mod-eq-of-lt l))
       ∙ x .clear (33 * g + t) (omega arith)
 
-  count-clear : getD (c .counts) g 0 ≤ 32
+  count-clear : getD (c .checks .counts) g 0 ≤ 32
   unfolding wrongThing
   count-clear = ltb-false _ _ (thing-clear 0 (omega arith))
 
-  check-clear : (j : ℕ) → j < getD (c .counts) g 0 → wrongCheck (c .intervals) (c .places) (c .drifts) g j ≡ false
+  check-clear : (j : ℕ) → j < getD (c .checks .counts) g 0 → wrongCheck (c .intervals) (c .checks .places) (c .checks .drifts) g j ≡ false
   unfolding wrongThing
   check-clear j l =
-      both-second (ltb j (getD (c .counts) g 0)) (wrongCheck (c .intervals) (c .places) (c .drifts) g j) (lt-ltb _ _ l)
-      (thing-clear (suc j) (let z : getD (c .counts) g 0 ≤ 32 = count-clear in omega arith))
+      both-second (ltb j (getD (c .checks .counts) g 0)) (wrongCheck (c .intervals) (c .checks .places) (c .checks .drifts) g j) (lt-ltb _ _ l)
+      (thing-clear (suc j) (let z : getD (c .checks .counts) g 0 ≤ 32 = count-clear in omega arith))
 
-  checked : (j : ℕ) → j < getD (c .counts) g 0
-      → (ltb (c .intervals) (getD (c .places) (32 * g + j) 0) ≡ false)
-      × (driftRight (getD (c .drifts) (32 * g + j) (pos 0)) ≡ true)
-      × (both (ltb 0 j) (leb (getD (c .places) (32 * g + j) 0) (getD (c .places) (32 * g + (j - 1)) 0)) ≡ false)
+  checked : (j : ℕ) → j < getD (c .checks .counts) g 0
+      → (ltb (c .intervals) (getD (c .checks .places) (32 * g + j) 0) ≡ false)
+      × (driftRight (getD (c .checks .drifts) (32 * g + j) (pos 0)) ≡ true)
+      × (both (ltb 0 j) (leb (getD (c .checks .places) (32 * g + j) 0) (getD (c .checks .places) (32 * g + (j - 1)) 0)) ≡ false)
   unfolding wrongCheck
   checked j l =
-      three-false (ltb (c .intervals) (getD (c .places) (32 * g + j) 0)) (driftRight (getD (c .drifts) (32 * g + j) (pos 0)))
-      (both (ltb 0 j) (leb (getD (c .places) (32 * g + j) 0) (getD (c .places) (32 * g + (j - 1)) 0)))
+      three-false (ltb (c .intervals) (getD (c .checks .places) (32 * g + j) 0)) (driftRight (getD (c .checks .drifts) (32 * g + j) (pos 0)))
+      (both (ltb 0 j) (leb (getD (c .checks .places) (32 * g + j) 0) (getD (c .checks .places) (32 * g + (j - 1)) 0)))
       (check-clear j l)
 
   -- a check and the next one
-  next-clear : (j : ℕ) → suc j < getD (c .counts) g 0 → getD (c .places) (32 * g + j) 0 < getD (c .places) (32 * g + suc j) 0
+  next-clear : (j : ℕ) → suc j < getD (c .checks .counts) g 0 → getD (c .checks .places) (32 * g + j) 0 < getD (c .checks .places) (32 * g + suc j) 0
   next-clear j l =
-      leb-false (getD (c .places) (32 * g + suc j) 0) (getD (c .places) (32 * g + j) 0)
-      (both-second (ltb 0 (suc j)) (leb (getD (c .places) (32 * g + suc j) 0) (getD (c .places) (32 * g + j) 0))
+      leb-false (getD (c .checks .places) (32 * g + suc j) 0) (getD (c .checks .places) (32 * g + j) 0)
+      (both-second (ltb 0 (suc j)) (leb (getD (c .checks .places) (32 * g + suc j) 0) (getD (c .checks .places) (32 * g + j) 0))
       (lt-ltb 0 (suc j) (omega arith))
       (subst
-      (λ (i : ℕ). both (ltb 0 (suc j)) (leb (getD (c .places) (32 * g + suc j) 0) (getD (c .places) (32 * g + i) 0)) ≡ false)
+      (λ (i : ℕ). both (ltb 0 (suc j)) (leb (getD (c .checks .places) (32 * g + suc j) 0) (getD (c .checks .places) (32 * g + i) 0)) ≡ false)
       (let z : suc j - 1 ≡ j = omega arith in z)
       (checked (suc j) l .2)))
 
-  rise-clear : (j k : ℕ) → j < k → k < getD (c .counts) g 0 → getD (c .places) (32 * g + j) 0 < getD (c .places) (32 * g + k) 0
+  rise-clear : (j k : ℕ) → j < k → k < getD (c .checks .counts) g 0 → getD (c .checks .places) (32 * g + j) 0 < getD (c .checks .places) (32 * g + k) 0
   rise-clear j zero l m = absurd (not-suc-le-zero l)
   rise-clear j (suc k) l m =
       ⊎-elim
-      (λ e. subst (λ (i : ℕ). getD (c .places) (32 * g + i) 0 < getD (c .places) (32 * g + suc k) 0) (sym e) (next-clear k m))
+      (λ e. subst (λ (i : ℕ). getD (c .checks .places) (32 * g + i) 0 < getD (c .checks .places) (32 * g + suc k) 0) (sym e) (next-clear k m))
       (λ q.
-      let a : getD (c .places) (32 * g + j) 0 < getD (c .places) (32 * g + k) 0 = rise-clear j k q (omega arith) in
-      let b : getD (c .places) (32 * g + k) 0 < getD (c .places) (32 * g + suc k) 0 = next-clear k m in
+      let a : getD (c .checks .places) (32 * g + j) 0 < getD (c .checks .places) (32 * g + k) 0 = rise-clear j k q (omega arith) in
+      let b : getD (c .checks .places) (32 * g + k) 0 < getD (c .checks .places) (32 * g + suc k) 0 = next-clear k m in
       omega arith)
       (eq-or-lt-of-le (le-of-suc-le-suc l))
-
--- one device-interval
-pub record Right (c : Call) (k : ℕ) : Type 0 where
-  pub flow-is : flowRight (getD (c .flow) k 0) ≡ true
-  pub content-is : contentRight (getD (c .content) k 0) ≡ true
-  pub temp-is : tempRight (getD (c .temp) k (pos 0)) ≡ true
-  pub press-is : pressRight (getD (c .press) k 0) ≡ true
-  pub status-is : statusRight (getD (c .status) k 0) ≡ true
 
 five-true : (a b c d e : Bool) → not (both a (both b (both c (both d e)))) ≡ false
     → (a ≡ true) × (b ≡ true) × (c ≡ true) × (d ≡ true) × (e ≡ true)
@@ -234,26 +215,30 @@ five-true a b c d e h =
     let s = both-true d e (r .1) in
     (p .0, q .0, r .0, s .0, s .1)
 
-readings-clear : (c : Call) → Clear (readingsStep c) → (k : ℕ) → k < c .devices * c .intervals → Right c k
+readings-clear : (c : Call) → Clear (readingsStep c) → InRange (c .series) (c .devices * c .intervals)
 unfolding readingsStep wrongReading
-readings-clear c x k h =
-    let v = five-true (flowRight (getD (c .flow) k 0)) (contentRight (getD (c .content) k 0)) (tempRight (getD (c .temp) k (pos 0)))
-    (pressRight (getD (c .press) k 0)) (statusRight (getD (c .status) k 0)) (x .clear k h) in
-    record { flow-is = v .0; content-is = v .1; temp-is = v .2; press-is = v .3; status-is = v .4 }
+readings-clear c x =
+    record { flow = λ k h. five k h .0; content = λ k h. five k h .1; temp = λ k h. five k h .2; press = λ k h. five k h .3; status = λ k h. five k h .4 }
+  where
+    five : (k : ℕ) → k < c .devices * c .intervals
+        → (flowRight (getD (c .series .flow) k 0) ≡ true) × (contentRight (getD (c .series .content) k 0) ≡ true)
+        × (tempRight (getD (c .series .temp) k (pos 0)) ≡ true) × (pressRight (getD (c .series .press) k 0) ≡ true)
+        × (statusRight (getD (c .series .status) k 0) ≡ true)
+    five k h = five-true _ _ _ _ _ (x .clear k h)
 
 module _ (c : Call) (x : Clear (fuelsStep c)) where
-  fuels-clear : length (c .quantity) ≤ 64
+  fuels-clear : length (c .fuel .quantity) ≤ 64
   unfolding fuelsStep wrongFuel
   fuels-clear = ltb-false _ _ (x .clear 0 (omega arith))
 
-  line-clear : (j : ℕ) → j < length (c .quantity)
-      → (ltb 1000000000 (getD (c .quantity) j 0) ≡ false) × (ltb 4000000 (getD (c .factor) j 0) ≡ false)
+  line-clear : (j : ℕ) → j < length (c .fuel .quantity)
+      → (ltb 1000000000 (getD (c .fuel .quantity) j 0) ≡ false) × (ltb 4000000 (getD (c .fuel .factor) j 0) ≡ false)
   unfolding fuelsStep wrongFuel
   line-clear j h =
-      let e : either (ltb 1000000000 (getD (c .quantity) j 0)) (ltb 4000000 (getD (c .factor) j 0)) ≡ false
+      let e : either (ltb 1000000000 (getD (c .fuel .quantity) j 0)) (ltb 4000000 (getD (c .fuel .factor) j 0)) ≡ false
       = x .clear (suc j) (omega arith) in (
-        either-first (ltb 1000000000 (getD (c .quantity) j 0)) (ltb 4000000 (getD (c .factor) j 0)) e,
-        either-second (ltb 1000000000 (getD (c .quantity) j 0)) (ltb 4000000 (getD (c .factor) j 0)) e,
+        either-first (ltb 1000000000 (getD (c .fuel .quantity) j 0)) (ltb 4000000 (getD (c .fuel .factor) j 0)) e,
+        either-second (ltb 1000000000 (getD (c .fuel .quantity) j 0)) (ltb 4000000 (getD (c .fuel .factor) j 0)) e,
       )
 
 -- ---- a call that is not refused
@@ -270,9 +255,9 @@ all-accepted c a =
     let readings : Clear (readingsStep c) = clear-of a (search (Among.top, Among.under) depth 12) in
     let fuels : Clear (fuelsStep c) = clear-of a (search (Among.top, Among.under) depth 12) in
     let same = lengths-clear c lengths in
-    let reads = readings-clear c readings in
+    let shape = shaped c same (intervals-clear c intervals) (devices-clear c devices) in
     record {
-      shape = shaped c same (intervals-clear c intervals) (devices-clear c devices);
+      shape = shape;
       outcome-long = outcome-is c same;
       flow-row-long = flow-row-is c same;
       content-row-long = content-row-is c same;
@@ -283,14 +268,14 @@ all-accepted c a =
       place-most = λ g j h l. ltb-false _ _ (checked c checks g h j l .0);
       drift-right = λ g j h l. checked c checks g h j l .1;
       places-rise = λ g j k h. rise-clear c checks g h j k;
-      flow-right = λ k h. reads k h .flow-is;
-      content-right = λ k h. reads k h .content-is;
-      temp-right = λ k h. reads k h .temp-is;
-      press-right = λ k h. reads k h .press-is;
-      status-right = λ k h. reads k h .status-is;
-      fuels-most = fuels-clear c fuels;
-      quantity-most = λ j h. ltb-false _ _ (line-clear c fuels j h .0);
-      factor-most = λ j h. ltb-false _ _ (line-clear c fuels j h .1);
+      in-range = readings-clear c readings;
+      burnable =
+          record {
+            same-length = shape .factor-long;
+            few = fuels-clear c fuels;
+            quantity-most = λ j h. ltb-false _ _ (line-clear c fuels j h .0);
+            factor-most = λ j h. ltb-false _ _ (line-clear c fuels j h .1);
+          };
     }
 
 pub accepted : (c : Call) → judged c ≡ Clean → Accepted c

@@ -8,7 +8,8 @@ use lib.IntN.{pos}
 use lib.ListN.{length, getD}
 use Rattle.rows.specs.Rows.{FirstOf}
 use Rattle.protocol.specs.Kinds.{isKind, misplaced}
-use Rattle.protocol.specs.Ranges.{intervalsMost, devicesMost, checksMost, fuelsMost, flowRight, contentRight, tempRight, pressRight, statusRight, driftRight}
+use Rattle.protocol.specs.Ranges.{intervalsMost, devicesMost, checksMost, driftRight}
+use Rattle.series.specs.Series.{ChecksLong, Long, InRange, Burnable}
 use Rattle.checks.specs.Call.{Call}
 use Rattle.checks.specs.Steps.{Step}
 use Rattle.checks.specs.declared.Refusal.{Refusal}
@@ -35,15 +36,9 @@ pub record Shaped (c : Call) : Type 0 where
   pub devices-least : 1 ≤ c .devices
   pub devices-most : c .devices ≤ devicesMost
   pub kinds-long : length (c .kinds) ≡ c .devices
-  pub counts-long : length (c .counts) ≡ 2 * c .devices
-  pub places-long : length (c .places) ≡ 64 * c .devices
-  pub drifts-long : length (c .drifts) ≡ 64 * c .devices
-  pub flow-long : length (c .flow) ≡ c .devices * c .intervals
-  pub content-long : length (c .content) ≡ c .devices * c .intervals
-  pub temp-long : length (c .temp) ≡ c .devices * c .intervals
-  pub press-long : length (c .press) ≡ c .devices * c .intervals
-  pub status-long : length (c .status) ≡ c .devices * c .intervals
-  pub factor-long : length (c .factor) ≡ length (c .quantity)
+  pub roomy : ChecksLong (c .checks) (c .devices)
+  pub long : Long (c .series) (c .devices * c .intervals)
+  pub factor-long : length (c .fuel .factor) ≡ length (c .fuel .quantity)
 
 -- what is known of a call that is not refused. Instrument g of device d is 2 d for flow and 2 d + 1 for CH4; check j of it
 -- stands at 32 g + j.
@@ -55,17 +50,11 @@ pub record Accepted (c : Call) : Type 0 where
   pub mine-most : c .mine ≤ 1
   pub kind-right : (d : ℕ) → d < c .devices → isKind (getD (c .kinds) d 0) ≡ true
   pub kind-placed : (d : ℕ) → d < c .devices → misplaced (c .mine) (getD (c .kinds) d 0) ≡ false
-  pub count-most : (g : ℕ) → g < 2 * c .devices → getD (c .counts) g 0 ≤ checksMost
-  pub place-most : (g j : ℕ) → g < 2 * c .devices → j < getD (c .counts) g 0 → getD (c .places) (32 * g + j) 0 ≤ c .intervals
-  pub drift-right : (g j : ℕ) → g < 2 * c .devices → j < getD (c .counts) g 0
-      → driftRight (getD (c .drifts) (32 * g + j) (pos 0)) ≡ true
-  pub places-rise : (g j k : ℕ) → g < 2 * c .devices → j < k → k < getD (c .counts) g 0
-      → getD (c .places) (32 * g + j) 0 < getD (c .places) (32 * g + k) 0
-  pub flow-right : (k : ℕ) → k < c .devices * c .intervals → flowRight (getD (c .flow) k 0) ≡ true
-  pub content-right : (k : ℕ) → k < c .devices * c .intervals → contentRight (getD (c .content) k 0) ≡ true
-  pub temp-right : (k : ℕ) → k < c .devices * c .intervals → tempRight (getD (c .temp) k (pos 0)) ≡ true
-  pub press-right : (k : ℕ) → k < c .devices * c .intervals → pressRight (getD (c .press) k 0) ≡ true
-  pub status-right : (k : ℕ) → k < c .devices * c .intervals → statusRight (getD (c .status) k 0) ≡ true
-  pub fuels-most : length (c .quantity) ≤ fuelsMost
-  pub quantity-most : (j : ℕ) → j < length (c .quantity) → getD (c .quantity) j 0 ≤ 1000000000
-  pub factor-most : (j : ℕ) → j < length (c .quantity) → getD (c .factor) j 0 ≤ 4000000
+  pub count-most : (g : ℕ) → g < 2 * c .devices → getD (c .checks .counts) g 0 ≤ checksMost
+  pub place-most : (g j : ℕ) → g < 2 * c .devices → j < getD (c .checks .counts) g 0 → getD (c .checks .places) (32 * g + j) 0 ≤ c .intervals
+  pub drift-right : (g j : ℕ) → g < 2 * c .devices → j < getD (c .checks .counts) g 0
+      → driftRight (getD (c .checks .drifts) (32 * g + j) (pos 0)) ≡ true
+  pub places-rise : (g j k : ℕ) → g < 2 * c .devices → j < k → k < getD (c .checks .counts) g 0
+      → getD (c .checks .places) (32 * g + j) 0 < getD (c .checks .places) (32 * g + k) 0
+  pub in-range : InRange (c .series) (c .devices * c .intervals)
+  pub burnable : Burnable (c .fuel)

@@ -2,7 +2,7 @@
 -- Assumes nothing.
 use Prim.Native.Nat.{ℕ}
 use mathlib.Core.List.{List}
-use lib.IntN.{ℤ}
+use Rattle.series.specs.Series.{Series, Checks, Fuel}
 
 -- "N quarter-hour intervals", "D devices", the mine; each device's kind, check counts (flow, then CH4), and 64 places for the
 -- positions and drifts of its checks, flow's 32 first; the five series of D rows of N entries, "device 0 first"; the fuel
@@ -12,16 +12,9 @@ pub record Call : Type 0 where
   pub devices : ℕ
   pub mine : ℕ
   pub kinds : List ℕ
-  pub counts : List ℕ
-  pub places : List ℕ
-  pub drifts : List ℤ
-  pub flow : List ℕ
-  pub content : List ℕ
-  pub temp : List ℤ
-  pub press : List ℕ
-  pub status : List ℕ
-  pub quantity : List ℕ
-  pub factor : List ℕ
+  pub checks : Checks
+  pub series : Series
+  pub fuel : Fuel
   pub outcome-length : ℕ
   pub flow-row-length : ℕ
   pub content-row-length : ℕ

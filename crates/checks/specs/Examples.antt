@@ -5,6 +5,7 @@ use mathlib.Core.Path.{_≡_, refl}
 use mathlib.Core.List.{List, [], _∷_, _++_}
 use lib.IntN.{negsuc}
 use Rattle.rows.specs.Rows.{build}
+use Rattle.series.specs.Series.{seriesOf, checksOf, fuelOf}
 use Rattle.readings.specs.Readings.{wrongReading}
 use Rattle.scans.specs.Wrong.{wrongCheck, wrongThing, wrongFuel}
 use Rattle.checks.specs.Call.{Call}
@@ -20,16 +21,9 @@ sample mine kinds counts early flow fuels =
       devices = 2;
       mine = mine;
       kinds = kinds;
-      counts = counts;
-      places = early ++ build 125 (λ k. 0);
-      drifts = build 128 (λ k. negsuc 599);
-      flow = flow;
-      content = build 6 (λ k. 65535);
-      temp = build 6 (λ k. negsuc 32767);
-      press = build 6 (λ k. 101325);
-      status = build 6 (λ k. 3);
-      quantity = build fuels (λ k. 1000000000);
-      factor = build fuels (λ k. 4000000);
+      checks = checksOf counts (early ++ build 125 (λ k. 0)) (build 128 (λ k. negsuc 599));
+      series = seriesOf flow (build 6 (λ k. 65535)) (build 6 (λ k. negsuc 32767)) (build 6 (λ k. 101325)) (build 6 (λ k. 3));
+      fuel = fuelOf (build fuels (λ k. 1000000000)) (build fuels (λ k. 4000000));
       outcome-length = 6;
       flow-row-length = 6;
       content-row-length = 6;

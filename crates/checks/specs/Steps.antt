@@ -79,13 +79,13 @@ devicesStep c = record { size = 1; bad = λ k. not (fromOne devicesMost (c .devi
 -- "3 | a lent slice, result rows included, isn't exactly as long as N and D ask, or the fuel slices differ": the lengths
 unfoldable pub lengthsOf : Call → List ℕ
 lengthsOf c =
-    length (c .kinds) ∷ length (c .counts) ∷ length (c .places) ∷ length (c .drifts)
-    ∷ length (c .flow) ∷ length (c .content) ∷ length (c .temp) ∷ length (c .press) ∷ length (c .status)
-    ∷ c .outcome-length ∷ c .flow-row-length ∷ c .content-row-length ∷ length (c .factor) ∷ []
+    length (c .kinds) ∷ length (c .checks .counts) ∷ length (c .checks .places) ∷ length (c .checks .drifts)
+    ∷ length (c .series .flow) ∷ length (c .series .content) ∷ length (c .series .temp) ∷ length (c .series .press) ∷ length (c .series .status)
+    ∷ c .outcome-length ∷ c .flow-row-length ∷ c .content-row-length ∷ length (c .fuel .factor) ∷ []
 
 -- and what they are to be
 unfoldable pub wantedOf : Call → List ℕ
-wantedOf c = wantedFor (c .devices) (c .intervals) (length (c .quantity))
+wantedOf c = wantedFor (c .devices) (c .intervals) (length (c .fuel .quantity))
 
 unfoldable pub lengthsStep : Call → Step
 lengthsStep c =
@@ -112,7 +112,7 @@ unfoldable pub checksStep : Call → Step
 checksStep c =
     record {
       size = c .devices * 66;
-      bad = λ k. wrongThing (c .intervals) (c .counts) (c .places) (c .drifts) (k / 33) (k % 33);
+      bad = λ k. wrongThing (c .intervals) (c .checks) (k / 33) (k % 33);
       refusal = λ k. Check (k / 66) (checkPlace (k % 33));
     }
 
@@ -121,7 +121,7 @@ unfoldable pub readingsStep : Call → Step
 readingsStep c =
     record {
       size = c .devices * c .intervals;
-      bad = wrongReading (c .flow) (c .content) (c .temp) (c .press) (c .status);
+      bad = wrongReading (c .series);
       refusal = λ k. Reading (k / c .intervals) (k % c .intervals);
     }
 
@@ -131,7 +131,7 @@ fuelPlace t = thingPlace fuelsMost t
 
 unfoldable pub fuelsStep : Call → Step
 fuelsStep c =
-    record { size = 1 + length (c .quantity); bad = wrongFuel (c .quantity) (c .factor); refusal = λ k. Fuel (fuelPlace k) }
+    record { size = 1 + length (c .fuel .quantity); bad = wrongFuel (c .fuel); refusal = λ k. Fuel (fuelPlace k) }
 
 -- the order of test: what the call's shape is, then its values
 abbrev pub valueSteps : Call → List Step

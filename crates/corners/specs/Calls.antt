@@ -5,6 +5,7 @@ use mathlib.Core.List.{List, [], _∷_, _++_}
 use lib.IntN.{ℤ, pos}
 use lib.ListN.{length, replicate}
 use Rattle.protocol.specs.Ranges.{mark}
+use Rattle.series.specs.Series.{seriesOf, checksOf, fuelOf}
 use Rattle.checks.specs.Call.{Call}
 
 -- what differs from call to call; temperature is 20.00 °C and pressure 101,325 Pa, the reference conditions
@@ -27,16 +28,9 @@ callOf g =
       devices = 1;
       mine = g .mine;
       kinds = g .kind ∷ [];
-      counts = g .counts;
-      places = g .places ++ replicate (64 - length (g .places)) 0;
-      drifts = g .drifts ++ replicate (64 - length (g .drifts)) (pos 0);
-      flow = g .flow;
-      content = g .content;
-      temp = replicate (length (g .flow)) (pos 2000);
-      press = replicate (length (g .flow)) 101325;
-      status = g .status;
-      quantity = g .quantity;
-      factor = g .factor;
+      checks = checksOf (g .counts) (g .places ++ replicate (64 - length (g .places)) 0) (g .drifts ++ replicate (64 - length (g .drifts)) (pos 0));
+      series = seriesOf (g .flow) (g .content) (replicate (length (g .flow)) (pos 2000)) (replicate (length (g .flow)) 101325) (g .status);
+      fuel = fuelOf (g .quantity) (g .factor);
       outcome-length = length (g .flow);
       flow-row-length = length (g .flow);
       content-row-length = length (g .flow);

@@ -151,29 +151,29 @@ same-used reading corrected i o k f c = go (missingAt reading i) refl
     go false e = refl
 
 -- an outcome without a replacement is not counted
-without-flow : (r : Records) (i : ℕ) → missingAt (r .flow) i ≡ true
-    → counted (replacedAs 1 (replacementAt (r .flow) (correctedFlow r) i)) ≡ false → counted (outcomeAt r i) ≡ false
+without-flow : (r : Records) (i : ℕ) → missingAt (r .series .flow) i ≡ true
+    → counted (replacedAs 1 (replacementAt (r .series .flow) (correctedFlow r) i)) ≡ false → counted (outcomeAt r i) ≡ false
 unfolding outcomeAt
 without-flow r i e z =
     subst
     (λ (t : Bool). counted
-    (outcomeOf (getD (r .status) i 0) (either (tempMissing (getD (r .temp) i (pos 0))) (pressMissing (getD (r .press) i 0))) t (missingAt (r .content) i)
-    (replacedAs 1 (replacementAt (r .flow) (correctedFlow r) i)) (replacedAs 2 (replacementAt (r .content) (correctedContent r) i))) ≡ false)
+    (outcomeOf (getD (r .series .status) i 0) (either (tempMissing (getD (r .series .temp) i (pos 0))) (pressMissing (getD (r .series .press) i 0))) t (missingAt (r .series .content) i)
+    (replacedAs 1 (replacementAt (r .series .flow) (correctedFlow r) i)) (replacedAs 2 (replacementAt (r .series .content) (correctedContent r) i))) ≡ false)
     (sym e)
-    (excluded-flow (getD (r .status) i 0) (either (tempMissing (getD (r .temp) i (pos 0))) (pressMissing (getD (r .press) i 0))) (missingAt (r .content) i)
-    (replacedAs 1 (replacementAt (r .flow) (correctedFlow r) i)) (replacedAs 2 (replacementAt (r .content) (correctedContent r) i)) z)
+    (excluded-flow (getD (r .series .status) i 0) (either (tempMissing (getD (r .series .temp) i (pos 0))) (pressMissing (getD (r .series .press) i 0))) (missingAt (r .series .content) i)
+    (replacedAs 1 (replacementAt (r .series .flow) (correctedFlow r) i)) (replacedAs 2 (replacementAt (r .series .content) (correctedContent r) i)) z)
 
-without-content : (r : Records) (i : ℕ) → missingAt (r .content) i ≡ true
-    → counted (replacedAs 2 (replacementAt (r .content) (correctedContent r) i)) ≡ false → counted (outcomeAt r i) ≡ false
+without-content : (r : Records) (i : ℕ) → missingAt (r .series .content) i ≡ true
+    → counted (replacedAs 2 (replacementAt (r .series .content) (correctedContent r) i)) ≡ false → counted (outcomeAt r i) ≡ false
 unfolding outcomeAt
 without-content r i e z =
     subst
     (λ (t : Bool). counted
-    (outcomeOf (getD (r .status) i 0) (either (tempMissing (getD (r .temp) i (pos 0))) (pressMissing (getD (r .press) i 0))) (missingAt (r .flow) i) t
-    (replacedAs 1 (replacementAt (r .flow) (correctedFlow r) i)) (replacedAs 2 (replacementAt (r .content) (correctedContent r) i))) ≡ false)
+    (outcomeOf (getD (r .series .status) i 0) (either (tempMissing (getD (r .series .temp) i (pos 0))) (pressMissing (getD (r .series .press) i 0))) (missingAt (r .series .flow) i) t
+    (replacedAs 1 (replacementAt (r .series .flow) (correctedFlow r) i)) (replacedAs 2 (replacementAt (r .series .content) (correctedContent r) i))) ≡ false)
     (sym e)
-    (excluded-content (getD (r .status) i 0) (either (tempMissing (getD (r .temp) i (pos 0))) (pressMissing (getD (r .press) i 0))) (missingAt (r .flow) i)
-    (replacedAs 1 (replacementAt (r .flow) (correctedFlow r) i)) (replacedAs 2 (replacementAt (r .content) (correctedContent r) i)) z)
+    (excluded-content (getD (r .series .status) i 0) (either (tempMissing (getD (r .series .temp) i (pos 0))) (pressMissing (getD (r .series .press) i 0))) (missingAt (r .series .flow) i)
+    (replacedAs 1 (replacementAt (r .series .flow) (correctedFlow r) i)) (replacedAs 2 (replacementAt (r .series .content) (correctedContent r) i)) z)
 
 -- an entry's values are those that its outcome leaves of what is held
 entry-flow : (h : Held) (i : ℕ) → entryAt h i .flow ≡ usedFor (entryAt h i .outcome) (getD (h .flow-held) i mark)
@@ -185,12 +185,12 @@ unfolding entryAt entryOf
 entry-content h i = refl
 
 entry-litres-used : (h : Held) (i : ℕ)
-    → entryAt h i .litres ≡ litresFor (entryAt h i .outcome) (entryAt h i .flow) (entryAt h i .content) (getD (h .temp) i (pos 0)) (getD (h .press) i 0)
+    → entryAt h i .litres ≡ litresFor (entryAt h i .outcome) (entryAt h i .flow) (entryAt h i .content) (getD (h .series .temp) i (pos 0)) (getD (h .series .press) i 0)
 unfolding entryAt entryOf litresFor
 entry-litres-used h i = go (counted (entryAt h i .outcome))
   where
-    go : (t : Bool) → pick t (methaneLitres (getD (h .flow-held) i mark) (getD (h .content-held) i mark) (getD (h .temp) i (pos 0)) (getD (h .press) i 0)) 0
-        ≡ pick t (methaneLitres (pick t (getD (h .flow-held) i mark) 0) (pick t (getD (h .content-held) i mark) 0) (getD (h .temp) i (pos 0)) (getD (h .press) i 0)) 0
+    go : (t : Bool) → pick t (methaneLitres (getD (h .flow-held) i mark) (getD (h .content-held) i mark) (getD (h .series .temp) i (pos 0)) (getD (h .series .press) i 0)) 0
+        ≡ pick t (methaneLitres (pick t (getD (h .flow-held) i mark) 0) (pick t (getD (h .content-held) i mark) 0) (getD (h .series .temp) i (pos 0)) (getD (h .series .press) i 0)) 0
     go true = refl
     go false = refl
 
@@ -200,99 +200,91 @@ entry-litres-used h i = go (counted (entryAt h i .outcome))
 pub heldOf : Records → Held
 heldOf r =
     record {
-      flow = r .flow;
-      content = r .content;
-      temp = r .temp;
-      press = r .press;
-      status = r .status;
-      flow-held = build (intervalsOf r) (filledAt (r .flow) (correctedFlow r));
-      content-held = build (intervalsOf r) (filledAt (r .content) (correctedContent r));
+      series = r .series;
+      flow-held = build (intervalsOf r) (filledAt (r .series .flow) (correctedFlow r));
+      content-held = build (intervalsOf r) (filledAt (r .series .content) (correctedContent r));
     }
 
 module _ (r : Records) (x : Right r) where
-  pub flow-low : Low (r .flow) flowMost
-  flow-low = low-right (r .flow) flowMost (x .flow-right)
+  pub flow-low : Low (r .series .flow) flowMost
+  flow-low = low-right (r .series .flow) flowMost (x .in-range .flow)
 
-  pub content-low : Low (r .content) contentMost
-  content-low = low-right (r .content) contentMost (λ i l. x .content-right i (subst (λ (m : ℕ). i < m) (x .contents) l))
+  pub content-low : Low (r .series .content) contentMost
+  content-low = low-right (r .series .content) contentMost (λ i l. x .in-range .content i (subst (λ (m : ℕ). i < m) (x .long .content) l))
 
-  flow-goes : Goes (r .flow) (correctedFlow r) flowMost
+  flow-goes : Goes (r .series .flow) (correctedFlow r) flowMost
   unfolding correctedFlow
-  flow-goes = corrected-goes (instrumentOf r 0) (r .flow) flowMost flow-low
+  flow-goes = corrected-goes (instrumentOf r 0) (r .series .flow) flowMost flow-low
 
-  content-goes : Goes (r .content) (correctedContent r) contentMost
+  content-goes : Goes (r .series .content) (correctedContent r) contentMost
   unfolding correctedContent
   content-goes =
-      subst (λ (m : ℕ). Goes (r .content) (build m (correctedAt (instrumentOf r 1) (r .content))) contentMost) (x .contents)
-      (corrected-goes (instrumentOf r 1) (r .content) contentMost content-low)
+      subst (λ (m : ℕ). Goes (r .series .content) (build m (correctedAt (instrumentOf r 1) (r .series .content))) contentMost) (x .long .content)
+      (corrected-goes (instrumentOf r 1) (r .series .content) contentMost content-low)
 
   -- what is held for an interval
-  flow-held : (i : ℕ) → i < intervalsOf r → getD (heldOf r .flow-held) i mark ≡ filledAt (r .flow) (correctedFlow r) i
+  flow-held : (i : ℕ) → i < intervalsOf r → getD (heldOf r .flow-held) i mark ≡ filledAt (r .series .flow) (correctedFlow r) i
   unfolding heldOf
-  flow-held i l = getD-build (intervalsOf r) (filledAt (r .flow) (correctedFlow r)) i mark l
+  flow-held i l = getD-build (intervalsOf r) (filledAt (r .series .flow) (correctedFlow r)) i mark l
 
-  content-held : (i : ℕ) → i < intervalsOf r → getD (heldOf r .content-held) i mark ≡ filledAt (r .content) (correctedContent r) i
+  content-held : (i : ℕ) → i < intervalsOf r → getD (heldOf r .content-held) i mark ≡ filledAt (r .series .content) (correctedContent r) i
   unfolding heldOf
-  content-held i l = getD-build (intervalsOf r) (filledAt (r .content) (correctedContent r)) i mark l
+  content-held i l = getD-build (intervalsOf r) (filledAt (r .series .content) (correctedContent r)) i mark l
 
   pub ready : ReadyAt (heldOf r) (intervalsOf r)
   unfolding heldOf
   ready =
       record {
         few = x .few;
-        flows = refl;
-        contents = x .contents;
-        temps = x .temps;
-        presses = x .presses;
-        statuses = x .statuses;
-        flow-rows = length-build (intervalsOf r) (filledAt (r .flow) (correctedFlow r));
-        content-rows = length-build (intervalsOf r) (filledAt (r .content) (correctedContent r));
+        long = x .long;
+        flow-rows = length-build (intervalsOf r) (filledAt (r .series .flow) (correctedFlow r));
+        content-rows = length-build (intervalsOf r) (filledAt (r .series .content) (correctedContent r));
         ready = λ i l.
             record {
               flow-held =
-                  subst (λ (v : ℕ). Holds (getD (r .flow) i mark) v flowMost) (sym (flow-held i l))
-                  (filled-holds (r .flow) (correctedFlow r) flowMost i flow-goes (omega arith) l);
+                  subst (λ (v : ℕ). Holds (getD (r .series .flow) i mark) v flowMost) (sym (flow-held i l))
+                  (filled-holds (r .series .flow) (correctedFlow r) flowMost i flow-goes (omega arith) l);
               content-held =
-                  subst (λ (v : ℕ). Holds (getD (r .content) i mark) v contentMost) (sym (content-held i l))
-                  (filled-holds (r .content) (correctedContent r) contentMost i content-goes (omega arith) (subst (λ (m : ℕ). i < m) (sym (x .contents)) l));
-              temp-right = x .temp-right i l;
-              press-right = x .press-right i l;
+                  subst (λ (v : ℕ). Holds (getD (r .series .content) i mark) v contentMost) (sym (content-held i l))
+                  (filled-holds (r .series .content) (correctedContent r) contentMost i content-goes (omega arith) (subst (λ (m : ℕ). i < m) (sym (x .long .content)) l));
+              temp-right = x .in-range .temp i l;
+              press-right = x .in-range .press i l;
             };
       }
 
   pub outcome-is : (i : ℕ) → i < intervalsOf r → entryAt (heldOf r) i .outcome ≡ outcomeAt r i
   unfolding entryAt entryOf outcomeAt heldOf
   outcome-is i l =
-      outcome-same (getD (r .status) i 0) (either (tempMissing (getD (r .temp) i (pos 0))) (pressMissing (getD (r .press) i 0)))
-      (missingAt (r .flow) i) (missingAt (r .content) i)
-      (heldOutcome 1 (getD (heldOf r .flow-held) i mark)) (replacedAs 1 (replacementAt (r .flow) (correctedFlow r) i))
-      (heldOutcome 2 (getD (heldOf r .content-held) i mark)) (replacedAs 2 (replacementAt (r .content) (correctedContent r) i))
-      (λ e. ap (heldOutcome 1) (flow-held i l ∙ filled-missing (r .flow) (correctedFlow r) i e)
-      ∙ held-as 1 flowMost (replacementAt (r .flow) (correctedFlow r) i) (replacement-most (r .flow) (correctedFlow r) i flowMost l flow-goes) (omega arith))
-      (λ e. ap (heldOutcome 2) (content-held i l ∙ filled-missing (r .content) (correctedContent r) i e)
-      ∙ held-as 2 contentMost (replacementAt (r .content) (correctedContent r) i)
-      (replacement-most (r .content) (correctedContent r) i contentMost (subst (λ (m : ℕ). i < m) (sym (x .contents)) l) content-goes) (omega arith))
+      outcome-same (getD (r .series .status) i 0) (either (tempMissing (getD (r .series .temp) i (pos 0))) (pressMissing (getD (r .series .press) i 0)))
+      (missingAt (r .series .flow) i) (missingAt (r .series .content) i)
+      (heldOutcome 1 (getD (heldOf r .flow-held) i mark)) (replacedAs 1 (replacementAt (r .series .flow) (correctedFlow r) i))
+      (heldOutcome 2 (getD (heldOf r .content-held) i mark)) (replacedAs 2 (replacementAt (r .series .content) (correctedContent r) i))
+      (λ e. ap (heldOutcome 1) (flow-held i l ∙ filled-missing (r .series .flow) (correctedFlow r) i e)
+      ∙ held-as 1 flowMost (replacementAt (r .series .flow) (correctedFlow r) i) (replacement-most (r .series .flow) (correctedFlow r) i flowMost l flow-goes) (omega arith))
+      (λ e. ap (heldOutcome 2) (content-held i l ∙ filled-missing (r .series .content) (correctedContent r) i e)
+      ∙ held-as 2 contentMost (replacementAt (r .series .content) (correctedContent r) i)
+      (replacement-most (r .series .content) (correctedContent r) i contentMost (subst (λ (m : ℕ). i < m) (sym (x .long .content)) l) content-goes) (omega arith))
 
   flow-is : (i : ℕ) → i < intervalsOf r → entryAt (heldOf r) i .flow ≡ flowUsedAt r i
   unfolding flowUsedAt
   flow-is i l =
       entry-flow (heldOf r) i
       ∙ ap₂ usedFor (outcome-is i l) (flow-held i l)
-      ∙ same-used (r .flow) (correctedFlow r) i (outcomeAt r i) 1 (without-flow r i) refl
+      ∙ same-used (r .series .flow) (correctedFlow r) i (outcomeAt r i) 1 (without-flow r i) refl
 
   content-is : (i : ℕ) → i < intervalsOf r → entryAt (heldOf r) i .content ≡ contentUsedAt r i
   unfolding contentUsedAt
   content-is i l =
       entry-content (heldOf r) i
       ∙ ap₂ usedFor (outcome-is i l) (content-held i l)
-      ∙ same-used (r .content) (correctedContent r) i (outcomeAt r i) 2 (without-content r i) refl
+      ∙ same-used (r .series .content) (correctedContent r) i (outcomeAt r i) 2 (without-content r i) refl
 
   litres-is : (i : ℕ) → i < intervalsOf r → entryAt (heldOf r) i .litres ≡ litresAt r i
   unfolding litresAt heldOf
   litres-is i l =
       entry-litres-used (heldOf r) i
-      ∙ ap (λ (o : ℕ). litresFor o (entryAt (heldOf r) i .flow) (entryAt (heldOf r) i .content) (getD (heldOf r .temp) i (pos 0)) (getD (heldOf r .press) i 0)) (outcome-is i l)
-      ∙ ap₂ (λ (f c : ℕ). litresFor (outcomeAt r i) f c (getD (heldOf r .temp) i (pos 0)) (getD (heldOf r .press) i 0)) (flow-is i l) (content-is i l)
+      ∙ ap (λ (o : ℕ). litresFor o (entryAt (heldOf r) i .flow) (entryAt (heldOf r) i .content) (getD (heldOf r .series .temp) i (pos 0)) (getD (heldOf r .series .press) i 0)) (outcome-is i l)
+      ∙ ap₂ (λ (f c : ℕ). litresFor (outcomeAt r i) f c (getD (heldOf r .series .temp) i (pos 0)) (getD (heldOf r .series .press) i 0)) (flow-is i l) (content-is i l)
 
   sums-counts : sumsOf (intervalsOf r) (entryAt (heldOf r)) .counts ≡ accountOf r .counts
   unfolding sumsOf accountOf
@@ -354,11 +346,11 @@ module _ (r : Records) (x : Right r) where
 
   -- an interval that counts was inside its ranges
   pub counted-inside : (i : ℕ) → i < intervalsOf r → counted (outcomeAt r i) ≡ true
-      → Inside (flowUsedAt r i) (getD (r .temp) i (pos 0)) (getD (r .press) i 0) × (contentUsedAt r i ≤ contentMost)
+      → Inside (flowUsedAt r i) (getD (r .series .temp) i (pos 0)) (getD (r .series .press) i 0) × (contentUsedAt r i ≤ contentMost)
   unfolding heldOf
   counted-inside i l e =
       let y = counted-used (heldOf r) (intervalsOf r) ready i l (ap counted (outcome-is i l) ∙ e) in (
-        subst (λ (f : ℕ). Inside f (getD (r .temp) i (pos 0)) (getD (r .press) i 0)) (flow-is i l) (y .0),
+        subst (λ (f : ℕ). Inside f (getD (r .series .temp) i (pos 0)) (getD (r .series .press) i 0)) (flow-is i l) (y .0),
         subst (λ (c : ℕ). c ≤ contentMost) (content-is i l) (y .1),
       )
 
@@ -369,27 +361,23 @@ low-weaken reading b c l x = record { low = λ i e. le-trans (x .low i e) l }
 -- a device's rows with these held
 abbrev pub holding : Records → List ℕ → List ℕ → Held
 holding r f c =
-    record { flow = r .flow; content = r .content; temp = r .temp; press = r .press; status = r .status; flow-held = f; content-held = c }
+    record { series = r .series; flow-held = f; content-held = c }
 
 -- the two series as `fill_series` leaves them: flow's with its own instrument, CH4's with its own
-pub record Series (r : Records) (f c : List ℕ) : Type 0 where
-  pub flow-filled : f ≡ build (length (r .flow)) (filledAt (r .flow) (build (length (r .flow)) (correctedAt (instrumentOf r 0) (r .flow))))
-  pub content-filled : c ≡ build (length (r .content)) (filledAt (r .content) (build (length (r .content)) (correctedAt (instrumentOf r 1) (r .content))))
+pub record Filling (r : Records) (f c : List ℕ) : Type 0 where
+  pub flow-filled : f ≡ build (length (r .series .flow)) (filledAt (r .series .flow) (build (length (r .series .flow)) (correctedAt (instrumentOf r 0) (r .series .flow))))
+  pub content-filled : c ≡ build (length (r .series .content)) (filledAt (r .series .content) (build (length (r .series .content)) (correctedAt (instrumentOf r 1) (r .series .content))))
 
-module _ (r : Records) (x : Right r) (f c : List ℕ) (y : Series r f c) where
+module _ (r : Records) (x : Right r) (f c : List ℕ) (y : Filling r f c) where
   held-is : heldOf r ≡ holding r f c
   unfolding heldOf correctedFlow correctedContent
   held-is k =
       record {
-        flow = r .flow;
-        content = r .content;
-        temp = r .temp;
-        press = r .press;
-        status = r .status;
+        series = r .series;
         flow-held = sym (y .flow-filled) k;
         content-held =
             sym (y .content-filled
-            ∙ ap (λ (m : ℕ). build m (filledAt (r .content) (build m (correctedAt (instrumentOf r 1) (r .content))))) (x .contents)) k;
+            ∙ ap (λ (m : ℕ). build m (filledAt (r .series .content) (build m (correctedAt (instrumentOf r 1) (r .series .content))))) (x .long .content)) k;
       }
 
   pub ready-held : ReadyAt (holding r f c) (intervalsOf r)

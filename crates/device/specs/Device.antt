@@ -8,7 +8,8 @@ use mathlib.Core.List.{List, [], _∷_}
 use lib.IntN.{ℤ, pos}
 use lib.ListN.{length, getD}
 use Rattle.rows.specs.Rows.{pick, either, build, sumTo, countOf, cut}
-use Rattle.protocol.specs.Ranges.{intervalsMost, mark, tempMissing, pressMissing, flowRight, contentRight, tempRight, pressRight, statusRight}
+use Rattle.protocol.specs.Ranges.{intervalsMost, mark, tempMissing, pressMissing}
+use Rattle.series.specs.Series.{Series, Checks, Long, ChecksLong, InRange}
 use Rattle.drift.specs.Drift.{Instrument, correctedAt, Ordered}
 use Rattle.runs.specs.Runs.{missingAt}
 use Rattle.gaps.specs.Gaps.{replacementAt}
@@ -22,33 +23,27 @@ use Rattle.device.specs.declared.Account.{Account}
 -- positions and for drifts, and its kind
 pub record Records : Type 0 where
   pub kind : ℕ
-  pub flow : List ℕ
-  pub content : List ℕ
-  pub temp : List ℤ
-  pub press : List ℕ
-  pub status : List ℕ
-  pub counts : List ℕ
-  pub places : List ℕ
-  pub drifts : List ℤ
+  pub series : Series
+  pub checks : Checks
 
 abbrev pub intervalsOf : Records → ℕ
-intervalsOf r = length (r .flow)
+intervalsOf r = length (r .series .flow)
 
 -- "each device has a flow instrument, then a CH4 instrument": 0 and 1
 unfoldable pub instrumentOf : Records → ℕ → Instrument
 instrumentOf r g =
     record {
-      count = getD (r .counts) g 0;
-      places = cut (r .places) (32 * g) (32 * g + 32);
-      drifts = cut (r .drifts) (32 * g) (32 * g + 32);
+      count = getD (r .checks .counts) g 0;
+      places = cut (r .checks .places) (32 * g) (32 * g + 32);
+      drifts = cut (r .checks .drifts) (32 * g) (32 * g + 32);
     }
 
 -- "This precedes replacement": each series with its drift taken out
 unfoldable pub correctedFlow : Records → List ℕ
-correctedFlow r = build (intervalsOf r) (correctedAt (instrumentOf r 0) (r .flow))
+correctedFlow r = build (intervalsOf r) (correctedAt (instrumentOf r 0) (r .series .flow))
 
 unfoldable pub correctedContent : Records → List ℕ
-correctedContent r = build (intervalsOf r) (correctedAt (instrumentOf r 1) (r .content))
+correctedContent r = build (intervalsOf r) (correctedAt (instrumentOf r 1) (r .series .content))
 
 -- the outcome of an interval whose reading is missing: the replacement's, or "8 that gap has 673 or more; 9 its window isn't
 -- whole"
@@ -60,12 +55,12 @@ replacedAs outcome NotWhole = 9
 -- "Outcome, the first that applies"
 unfoldable pub outcomeAt : Records → ℕ → ℕ
 outcomeAt r i =
-    outcomeOf (getD (r .status) i 0)
-    (either (tempMissing (getD (r .temp) i (pos 0))) (pressMissing (getD (r .press) i 0)))
-    (missingAt (r .flow) i)
-    (missingAt (r .content) i)
-    (replacedAs 1 (replacementAt (r .flow) (correctedFlow r) i))
-    (replacedAs 2 (replacementAt (r .content) (correctedContent r) i))
+    outcomeOf (getD (r .series .status) i 0)
+    (either (tempMissing (getD (r .series .temp) i (pos 0))) (pressMissing (getD (r .series .press) i 0)))
+    (missingAt (r .series .flow) i)
+    (missingAt (r .series .content) i)
+    (replacedAs 1 (replacementAt (r .series .flow) (correctedFlow r) i))
+    (replacedAs 2 (replacementAt (r .series .content) (correctedContent r) i))
 
 abbrev pub valueOf : Replacement → ℕ
 valueOf (Value v) = v
@@ -79,15 +74,15 @@ valueAt reading corrected i =
 
 -- "The three output rows hold outcome, flow used and CH4 used; excluded intervals hold 0 for both values"
 unfoldable pub flowUsedAt : Records → ℕ → ℕ
-flowUsedAt r i = usedFor (outcomeAt r i) (valueAt (r .flow) (correctedFlow r) i)
+flowUsedAt r i = usedFor (outcomeAt r i) (valueAt (r .series .flow) (correctedFlow r) i)
 
 unfoldable pub contentUsedAt : Records → ℕ → ℕ
-contentUsedAt r i = usedFor (outcomeAt r i) (valueAt (r .content) (correctedContent r) i)
+contentUsedAt r i = usedFor (outcomeAt r i) (valueAt (r .series .content) (correctedContent r) i)
 
 -- the methane litres of an interval
 unfoldable pub litresAt : Records → ℕ → ℕ
 litresAt r i =
-    litresFor (outcomeAt r i) (flowUsedAt r i) (contentUsedAt r i) (getD (r .temp) i (pos 0)) (getD (r .press) i 0)
+    litresFor (outcomeAt r i) (flowUsedAt r i) (contentUsedAt r i) (getD (r .series .temp) i (pos 0)) (getD (r .series .press) i 0)
 
 -- "Q = their sum"
 unfoldable pub methaneOf : Records → ℕ
@@ -110,18 +105,10 @@ pub record Low (reading : List ℕ) (b : ℕ) : Type 0 where
 -- what refusals 1 to 8 leave: rows of one length, checks in order, every reading in range or missing
 pub record Right (r : Records) : Type 0 where
   pub few : intervalsOf r ≤ intervalsMost
-  pub contents : length (r .content) ≡ intervalsOf r
-  pub temps : length (r .temp) ≡ intervalsOf r
-  pub presses : length (r .press) ≡ intervalsOf r
-  pub statuses : length (r .status) ≡ intervalsOf r
-  pub counts-two : length (r .counts) ≡ 2
-  pub places-kept : length (r .places) ≡ 64
-  pub drifts-kept : length (r .drifts) ≡ 64
+  pub long : Long (r .series) (intervalsOf r)
+  pub kept : ChecksLong (r .checks) 1
   pub ordered : (g : ℕ) → g < 2 → Ordered (instrumentOf r g) (intervalsOf r)
-  pub flow-right : (i : ℕ) → i < intervalsOf r → flowRight (getD (r .flow) i 0) ≡ true
-  pub content-right : (i : ℕ) → i < intervalsOf r → contentRight (getD (r .content) i 0) ≡ true
-  pub temp-right : (i : ℕ) → i < intervalsOf r → tempRight (getD (r .temp) i (pos 0)) ≡ true
-  pub press-right : (i : ℕ) → i < intervalsOf r → pressRight (getD (r .press) i 0) ≡ true
+  pub in-range : InRange (r .series) (intervalsOf r)
 
 -- the three rows and the account that the definitions build
 pub record Filled (r : Records) (outcomeRow flowRow contentRow : List ℕ) (a : Account) : Type 0 where

@@ -5,6 +5,7 @@ ghost use mathlib.Core.Bool.{false};
 ghost use lib.ListN.{length, getD};
 ghost use Rattle.rows.specs.Rows.{build};
 ghost use Rattle.protocol.specs.Ranges.{mark, flowMost};
+ghost use Rattle.series.specs.Series.{seriesNow, checksNow, seriesAt, checksAt};
 ghost use Rattle.drift.specs.Drift.{Ordered, correctedAt};
 ghost use Rattle.runs.specs.Runs.{missingAt};
 ghost use Rattle.gaps.specs.Gaps.{filledAt};
@@ -50,31 +51,11 @@ pub fn fill_row(
     content_used: &mut [u16],
 ) -> Account
     requires { ⌜ Right
-        (record {
-          kind = kind;
-          flow = now flow;
-          content = now content;
-          temp = now temp;
-          press = now press;
-          status = now status;
-          counts = now counts;
-          places = now places;
-          drifts = now drifts;
-        })
+        (record { kind = kind; series = seriesNow flow content temp press status; checks = checksNow counts places drifts })
         × (length (now outcome) ≡ length (now flow)) × (length (now «flow_used») ≡ length (now flow))
         × (length (now «content_used») ≡ length (now flow)) ⌝ }
     ensures { λ r. ⌜ Filled
-        (record {
-          kind = kind;
-          flow = now (flow .entry);
-          content = now (content .entry);
-          temp = now (temp .entry);
-          press = now (press .entry);
-          status = now (status .entry);
-          counts = now (counts .entry);
-          places = now (places .entry);
-          drifts = now (drifts .entry);
-        })
+        (record { kind = kind; series = seriesAt flow content temp press status; checks = checksAt counts places drifts })
         (now (outcome .exit)) (now («flow_used» .exit)) (now («content_used» .exit)) r ⌝ }
 {
     fill_series(flow, counts[0], &places[0..32], &drifts[0..32], flow_used);

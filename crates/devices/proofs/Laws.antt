@@ -14,6 +14,8 @@ use lib.ListN.{length, getD, List·getD-eq-default}
 use Rattle.rows.specs.Rows.{pick, build, sumTo, countOf, hit, cut, put, join}
 use Rattle.rows.proofs.Laws.{length-build, getD-build, length-cut, room, length-put}
 use Rattle.rows.proofs.Sums.{sumTo-bound, sumTo-ext}
+use Rattle.series.specs.Series.{rowOf}
+use Rattle.series.proofs.Laws as Series
 use Rattle.protocol.specs.Numbers.{methaneMg}
 use Rattle.balance.specs.Balance.{destroyedOf, uncombustedOf, overDevices, baselineAll, carbonDioxideAll, uncombustedAll, baselineMg, carbonDioxideMg, uncombustedMg, deviceMost}
 use Rattle.balance.proofs.Laws.{destroyed-le, uncombusted-le, baseline-most, carbon-most, uncombusted-most}
@@ -22,7 +24,7 @@ use Rattle.device.specs.Device.{Records, intervalsOf, outcomeAt, flowUsedAt, co
 use Rattle.device.specs.declared.Account.{Account}
 use Rattle.device.proofs.Laws.{device-most}
 use Rattle.devices.specs.declared.Totals.{Totals}
-use Rattle.devices.specs.Devices.{Lent, rowOf, recordsOf, outcomePart, flowPart, contentPart, Sound, Written}
+use Rattle.devices.specs.Devices.{Lent, recordsOf, outcomePart, flowPart, contentPart, Sound, Written}
 use Rattle.devices.specs.Totals.{countIn, countedIn, replacedIn, excludedIn, kindIn, litresIn, totalsOf, added, Room}
 
 -- what the code adds up is what the specification adds
@@ -120,10 +122,7 @@ module _ (l : Lent) (devices : ℕ) (x : Sound l devices) (d : ℕ) (h : d < dev
   -- device d has its whole row
   pub row-long : intervalsOf (recordsOf l d) ≡ l .intervals
   unfolding recordsOf
-  row-long =
-      length-cut (l .flow) (d * l .intervals) (d * l .intervals + l .intervals) (omega arith)
-      (subst (λ (m : ℕ). d * l .intervals + l .intervals ≤ m) (sym (x .flow-long)) (room (l .intervals) d devices h))
-      ∙ add-sub-cancel-left (d * l .intervals) (l .intervals)
+  row-long = Series.row-long (l .series .flow) devices (l .intervals) d h (x .long .flow)
 
   counts-are : (j : ℕ) → j < 10 → getD (accountOf (recordsOf l d) .counts) j 0 ≡ countIn l d j
   unfolding accountOf countIn
@@ -239,11 +238,6 @@ module _ (l : Lent) (devices : ℕ) (x : Sound l devices) where
 pub cells : (d devices n : ℕ) → d < devices → devices ≤ 16 → n ≤ 35136 → (d * n + n ≤ devices * n) × (devices * n ≤ 562176)
 cells d devices n h m l = (room n d devices h, mul-le-mul m l)
 
--- two rows of one length have parts of one length
-pub same-part : (xs ys : List ℕ) (a n : ℕ) → a + n ≤ length xs → length xs ≡ length ys → length (cut xs a (a + n)) ≡ length (cut ys a (a + n))
-same-part xs ys a n h e =
-    length-cut xs a (a + n) (omega arith) h ∙ sym (length-cut ys a (a + n) (omega arith) (subst (λ (m : ℕ). a + n ≤ m) e h))
-
 -- where a device's part ends, and that its place in memory can be named
 pub part-end : (d devices n len : ℕ) → d < devices → len ≡ devices * n → d * n + n ≤ len
 part-end d devices n len h e = subst (λ (m : ℕ). d * n + n ≤ m) (sym e) (room n d devices h)
@@ -263,13 +257,13 @@ pub record Places (l : Lent) (d : ℕ) : Type 0 where
   pub counts-end-fits : Fits w64 (d * 2 + 2)
   pub counts-bytes : Fits w64 (d * 2 * 4)
   pub counts-up : d * 2 ≤ d * 2 + 2
-  pub counts-in : d * 2 + 2 ≤ length (l .counts)
+  pub counts-in : d * 2 + 2 ≤ length (l .checks .counts)
   pub checks-fit : Fits w64 (d * 64)
   pub checks-end-fits : Fits w64 (d * 64 + 64)
   pub checks-bytes : Fits w64 (d * 64 * 4)
   pub checks-up : d * 64 ≤ d * 64 + 64
-  pub places-in : d * 64 + 64 ≤ length (l .places)
-  pub drifts-in : d * 64 + 64 ≤ length (l .drifts)
+  pub places-in : d * 64 + 64 ≤ length (l .checks .places)
+  pub drifts-in : d * 64 + 64 ≤ length (l .checks .drifts)
   pub row-pairs : Fits w64 (d * l .intervals * 2)
   pub row-fours : Fits w64 (d * l .intervals * 4)
   pub row-up : d * l .intervals ≤ d * l .intervals + l .intervals
@@ -279,9 +273,9 @@ places-of l devices d x h =
     let m : devices ≤ 16 = x .few-devices in
     let n : l .intervals ≤ 35136 = x .few in
     let k : length (l .kinds) ≡ devices = x .kinds-long in
-    let c : length (l .counts) ≡ 2 * devices = x .counts-long in
-    let p : length (l .places) ≡ 64 * devices = x .places-long in
-    let q : length (l .drifts) ≡ 64 * devices = x .drifts-long in
+    let c : length (l .checks .counts) ≡ 2 * devices = x .roomy .counts in
+    let p : length (l .checks .places) ≡ 64 * devices = x .roomy .places in
+    let q : length (l .checks .drifts) ≡ 64 * devices = x .roomy .drifts in
     record {
       kind-in = omega arith;
       kind-fits = record { fits = omega arith };
@@ -305,14 +299,14 @@ places-of l devices d x h =
 
 module _ (l : Lent) (devices : ℕ) (x : Sound l devices) (d : ℕ) (h : d < devices) where
   pub parts-right : (o f c : List ℕ) → length o ≡ devices * l .intervals → length f ≡ devices * l .intervals → length c ≡ devices * l .intervals
-      → Right (recordsOf l d) × (length (rowOf o (l .intervals) d) ≡ length (rowOf (l .flow) (l .intervals) d))
-      × (length (rowOf f (l .intervals) d) ≡ length (rowOf (l .flow) (l .intervals) d))
-      × (length (rowOf c (l .intervals) d) ≡ length (rowOf (l .flow) (l .intervals) d))
+      → Right (recordsOf l d) × (length (rowOf o (l .intervals) d) ≡ length (rowOf (l .series .flow) (l .intervals) d))
+      × (length (rowOf f (l .intervals) d) ≡ length (rowOf (l .series .flow) (l .intervals) d))
+      × (length (rowOf c (l .intervals) d) ≡ length (rowOf (l .series .flow) (l .intervals) d))
+  unfolding recordsOf
   parts-right o f c p q r = (x .right d h, part o p, part f q, part c r)
     where
-      part : (xs : List ℕ) → length xs ≡ devices * l .intervals → length (rowOf xs (l .intervals) d) ≡ length (rowOf (l .flow) (l .intervals) d)
-      part xs e =
-          same-part xs (l .flow) (d * l .intervals) (l .intervals) (part-end d devices (l .intervals) (length xs) h e) (e ∙ sym (x .flow-long))
+      part : (xs : List ℕ) → length xs ≡ devices * l .intervals → length (rowOf xs (l .intervals) d) ≡ length (rowOf (l .series .flow) (l .intervals) d)
+      part xs e = Series.row-long xs devices (l .intervals) d h e ∙ sym (row-long l devices x d h)
 
   -- a part of the device's length leaves the whole row as long as it was
   put-kept : (xs ys : List ℕ) (g : ℕ → ℕ) → ys ≡ build (intervalsOf (recordsOf l d)) g → length xs ≡ devices * l .intervals

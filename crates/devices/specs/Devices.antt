@@ -3,10 +3,10 @@
 use Prim.Native.Nat.{ℕ, _+_, _*_, _≤_, _<_}
 use mathlib.Core.Path.{_≡_}
 use mathlib.Core.List.{List}
-use lib.IntN.{ℤ}
 use lib.ListN.{length, getD}
 use Rattle.protocol.specs.Ranges.{intervalsMost, devicesMost}
-use Rattle.rows.specs.Rows.{build, join, cut, put}
+use Rattle.rows.specs.Rows.{build, join, put}
+use Rattle.series.specs.Series.{Series, Checks, Long, ChecksLong, seriesPart, checksPart}
 use Rattle.device.specs.Device.{Records, Right, outcomeAt, flowUsedAt, contentUsedAt, accountOf}
 use Rattle.device.specs.declared.Account.{Account}
 
@@ -14,32 +14,16 @@ use Rattle.device.specs.declared.Account.{Account}
 pub record Lent : Type 0 where
   pub intervals : ℕ
   pub kinds : List ℕ
-  pub counts : List ℕ
-  pub places : List ℕ
-  pub drifts : List ℤ
-  pub flow : List ℕ
-  pub content : List ℕ
-  pub temp : List ℤ
-  pub press : List ℕ
-  pub status : List ℕ
-
--- a device's row starts at device times N
-abbrev pub rowOf {ℓ} : {A : Type ℓ} → List A → ℕ → ℕ → List A
-rowOf xs n d = cut xs (d * n) (d * n + n)
+  pub checks : Checks
+  pub series : Series
 
 -- device d's records, and nothing of its neighbours'
 unfoldable pub recordsOf : Lent → ℕ → Records
 recordsOf l d =
     record {
       kind = getD (l .kinds) d 0;
-      flow = rowOf (l .flow) (l .intervals) d;
-      content = rowOf (l .content) (l .intervals) d;
-      temp = rowOf (l .temp) (l .intervals) d;
-      press = rowOf (l .press) (l .intervals) d;
-      status = rowOf (l .status) (l .intervals) d;
-      counts = rowOf (l .counts) 2 d;
-      places = rowOf (l .places) 64 d;
-      drifts = rowOf (l .drifts) 64 d;
+      series = seriesPart (l .series) (l .intervals) d;
+      checks = checksPart (l .checks) d;
     }
 
 -- the three result rows
@@ -69,14 +53,8 @@ pub record Sound (l : Lent) (devices : ℕ) : Type 0 where
   pub few : l .intervals ≤ intervalsMost
   pub few-devices : devices ≤ devicesMost
   pub kinds-long : length (l .kinds) ≡ devices
-  pub counts-long : length (l .counts) ≡ 2 * devices
-  pub places-long : length (l .places) ≡ 64 * devices
-  pub drifts-long : length (l .drifts) ≡ 64 * devices
-  pub flow-long : length (l .flow) ≡ devices * l .intervals
-  pub content-long : length (l .content) ≡ devices * l .intervals
-  pub temp-long : length (l .temp) ≡ devices * l .intervals
-  pub press-long : length (l .press) ≡ devices * l .intervals
-  pub status-long : length (l .status) ≡ devices * l .intervals
+  pub roomy : ChecksLong (l .checks) devices
+  pub long : Long (l .series) (devices * l .intervals)
   pub right : (d : ℕ) → d < devices → Right (recordsOf l d)
 
 -- device d's part of the three rows written, the rest of them as it was, and its account

@@ -2,6 +2,7 @@
 ghost use Prim.Native.Nat.{ℕ, _+_, _*_, _≤_, _<_};
 ghost use mathlib.Core.Path.{_≡_};
 ghost use lib.ListN.{length};
+ghost use Rattle.series.specs.Series.{seriesNow, checksNow, seriesAt, checksAt};
 ghost use Rattle.devices.specs.Devices.{Sound, Written};
 ghost use Rattle.devices.specs.Totals.{added, Room, AllWritten};
 use device::Account;
@@ -65,34 +66,12 @@ fn one(
     content_used: &mut [u16],
 ) -> Account
     requires { ⌜ Sound
-        (record {
-          intervals = n;
-          kinds = now kinds;
-          counts = now counts;
-          places = now places;
-          drifts = now drifts;
-          flow = now flow;
-          content = now content;
-          temp = now temp;
-          press = now press;
-          status = now status;
-        })
+        (record { intervals = n; kinds = now kinds; checks = checksNow counts places drifts; series = seriesNow flow content temp press status })
         devices
         × (d < devices) × (length (now outcome) ≡ devices * n) × (length (now «flow_used») ≡ devices * n)
         × (length (now «content_used») ≡ devices * n) ⌝ }
     ensures { λ r. ⌜ Written
-        (record {
-          intervals = n;
-          kinds = now (kinds .entry);
-          counts = now (counts .entry);
-          places = now (places .entry);
-          drifts = now (drifts .entry);
-          flow = now (flow .entry);
-          content = now (content .entry);
-          temp = now (temp .entry);
-          press = now (press .entry);
-          status = now (status .entry);
-        })
+        (record { intervals = n; kinds = now (kinds .entry); checks = checksAt counts places drifts; series = seriesAt flow content temp press status })
         d (now (outcome .entry)) (now («flow_used» .entry)) (now («content_used» .entry))
         (now (outcome .exit)) (now («flow_used» .exit)) (now («content_used» .exit)) r ⌝ }
 {
@@ -137,34 +116,12 @@ pub fn fill_rows(
     content_used: &mut [u16],
 ) -> Totals
     requires { ⌜ Sound
-        (record {
-          intervals = n;
-          kinds = now kinds;
-          counts = now counts;
-          places = now places;
-          drifts = now drifts;
-          flow = now flow;
-          content = now content;
-          temp = now temp;
-          press = now press;
-          status = now status;
-        })
+        (record { intervals = n; kinds = now kinds; checks = checksNow counts places drifts; series = seriesNow flow content temp press status })
         devices
         × (length (now outcome) ≡ devices * n) × (length (now «flow_used») ≡ devices * n)
         × (length (now «content_used») ≡ devices * n) ⌝ }
     ensures { λ r. ⌜ AllWritten
-        (record {
-          intervals = n;
-          kinds = now (kinds .entry);
-          counts = now (counts .entry);
-          places = now (places .entry);
-          drifts = now (drifts .entry);
-          flow = now (flow .entry);
-          content = now (content .entry);
-          temp = now (temp .entry);
-          press = now (press .entry);
-          status = now (status .entry);
-        })
+        (record { intervals = n; kinds = now (kinds .entry); checks = checksAt counts places drifts; series = seriesAt flow content temp press status })
         devices (now (outcome .exit)) (now («flow_used» .exit)) (now («content_used» .exit)) r ⌝ }
 {
     let mut t = Totals {

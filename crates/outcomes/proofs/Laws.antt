@@ -206,13 +206,13 @@ module _ (flow content : ℕ) (temp : ℤ) (press status flowHeld contentHeld o 
 pub outcome-of-ten : (h : Held) (n : ℕ) → ReadyAt h n → (i : ℕ) → i < n → entryAt h i .outcome < 10
 unfolding entryAt
 outcome-of-ten h n x i l =
-    entry-few (getD (h .flow) i mark) (getD (h .content) i mark) (getD (h .temp) i (pos 0)) (getD (h .press) i 0) (getD (h .status) i 0)
+    entry-few (getD (h .series .flow) i mark) (getD (h .series .content) i mark) (getD (h .series .temp) i (pos 0)) (getD (h .series .press) i 0) (getD (h .series .status) i 0)
     (getD (h .flow-held) i mark) (getD (h .content-held) i mark) (x .ready i l)
 
 pub litres-of-entry : (h : Held) (n : ℕ) → ReadyAt h n → (i : ℕ) → i < n → entryAt h i .litres ≤ litresMost
 unfolding entryAt
 litres-of-entry h n x i l =
-    entry-litres (getD (h .flow) i mark) (getD (h .content) i mark) (getD (h .temp) i (pos 0)) (getD (h .press) i 0) (getD (h .status) i 0)
+    entry-litres (getD (h .series .flow) i mark) (getD (h .series .content) i mark) (getD (h .series .temp) i (pos 0)) (getD (h .series .press) i 0) (getD (h .series .status) i 0)
     (getD (h .flow-held) i mark) (getD (h .content-held) i mark) (x .ready i l)
 
 -- the methane of the first i intervals
@@ -245,10 +245,10 @@ counts-sum h n x =
 
 -- a counted interval's used values are in range
 pub counted-used : (h : Held) (n : ℕ) → ReadyAt h n → (i : ℕ) → i < n → counted (entryAt h i .outcome) ≡ true
-    → Inside (entryAt h i .flow) (getD (h .temp) i (pos 0)) (getD (h .press) i 0) × (entryAt h i .content ≤ contentMost)
+    → Inside (entryAt h i .flow) (getD (h .series .temp) i (pos 0)) (getD (h .series .press) i 0) × (entryAt h i .content ≤ contentMost)
 unfolding entryAt entryOf
 counted-used h n x i l e =
-    let y = counted-inside (getD (h .flow) i mark) (getD (h .content) i mark) (getD (h .temp) i (pos 0)) (getD (h .press) i 0) (getD (h .status) i 0) (getD (h .flow-held) i mark) (getD (h .content-held) i mark) (x .ready i l) (ltb-true (entryAt h i .outcome) 3 e) in
+    let y = counted-inside (getD (h .series .flow) i mark) (getD (h .series .content) i mark) (getD (h .series .temp) i (pos 0)) (getD (h .series .press) i 0) (getD (h .series .status) i 0) (getD (h .flow-held) i mark) (getD (h .content-held) i mark) (x .ready i l) (ltb-true (entryAt h i .outcome) 3 e) in
     simp e y
 
 -- an excluded interval's used values are 0
@@ -258,14 +258,14 @@ unfolding entryAt entryOf litresFor
 excluded-used h i e = (simp e, simp e, simp e)
 
 -- an interval's litres are those of its used values, counted or not
-pub litres-of-used : (h : Held) (i : ℕ) → entryAt h i .litres ≡ methaneLitres (entryAt h i .flow) (entryAt h i .content) (getD (h .temp) i (pos 0)) (getD (h .press) i 0)
+pub litres-of-used : (h : Held) (i : ℕ) → entryAt h i .litres ≡ methaneLitres (entryAt h i .flow) (entryAt h i .content) (getD (h .series .temp) i (pos 0)) (getD (h .series .press) i 0)
 unfolding entryAt entryOf litresFor
 litres-of-used h i = go (counted (entryAt h i .outcome))
   where
-    go : (t : Bool) → pick t (methaneLitres (getD (h .flow-held) i mark) (getD (h .content-held) i mark) (getD (h .temp) i (pos 0)) (getD (h .press) i 0)) 0
-        ≡ methaneLitres (pick t (getD (h .flow-held) i mark) 0) (pick t (getD (h .content-held) i mark) 0) (getD (h .temp) i (pos 0)) (getD (h .press) i 0)
+    go : (t : Bool) → pick t (methaneLitres (getD (h .flow-held) i mark) (getD (h .content-held) i mark) (getD (h .series .temp) i (pos 0)) (getD (h .series .press) i 0)) 0
+        ≡ methaneLitres (pick t (getD (h .flow-held) i mark) 0) (pick t (getD (h .content-held) i mark) 0) (getD (h .series .temp) i (pos 0)) (getD (h .series .press) i 0)
     go true = refl
-    go false = sym (no-flow 0 (getD (h .temp) i (pos 0)) (getD (h .press) i 0))
+    go false = sym (no-flow 0 (getD (h .series .temp) i (pos 0)) (getD (h .series .press) i 0))
 
 -- the contract permits one result only
 pub finished-unique : (h : Held) (o f c p g d : List ℕ) (s t : Sums) → Finished h o f c s → Finished h p g d t

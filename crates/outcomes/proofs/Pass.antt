@@ -18,6 +18,8 @@ use Rattle.rows.specs.Rows.{pick, build, sumTo, countOf, hit}
 use Rattle.rows.proofs.Laws.{build-step, build-done, length-build, getD-build, getD-inside}
 use Rattle.rows.proofs.Sums.{hit-same, hit-other, sumTo-bound}
 use Rattle.protocol.specs.Ranges.{mark, contentMost}
+use Rattle.series.specs.Series.{Within}
+use Rattle.series.proofs.Laws.{within}
 use Rattle.volume.specs.Volume.{methaneLitres, Inside, litresMost}
 use Rattle.outcomes.specs.declared.Entry.{Entry}
 use Rattle.outcomes.specs.Outcomes.{outcomes, allMeasured, entryOf, entryAt, sumsOf, Held, Ready, ReadyAt, Finished}
@@ -44,11 +46,11 @@ unwritten i g old row e h =
     ∙ getD-inside old i 0 mark h
 
 module _ {h : Held} {n : ℕ} {old o f c counts : List ℕ} {methane i : ℕ} (x : Going h n old o f c counts methane i) (l : i < n) where
-  at-flow : getD (h .flow) i 0 ≡ getD (h .flow) i mark
-  at-flow = getD-inside (h .flow) i 0 mark (let z : length (h .flow) ≡ n = x .ready .flows in omega arith)
+  at-flow : getD (h .series .flow) i 0 ≡ getD (h .series .flow) i mark
+  at-flow = getD-inside (h .series .flow) i 0 mark (let z : length (h .series .flow) ≡ n = x .ready .long .flow in omega arith)
 
-  at-content : getD (h .content) i 0 ≡ getD (h .content) i mark
-  at-content = getD-inside (h .content) i 0 mark (let z : length (h .content) ≡ n = x .ready .contents in omega arith)
+  at-content : getD (h .series .content) i 0 ≡ getD (h .series .content) i mark
+  at-content = getD-inside (h .series .content) i 0 mark (let z : length (h .series .content) ≡ n = x .ready .long .content in omega arith)
 
   at-flow-held : getD f i 0 ≡ getD (h .flow-held) i mark
   at-flow-held =
@@ -61,33 +63,33 @@ module _ {h : Held} {n : ℕ} {old o f c counts : List ℕ} {methane i : ℕ} (x
       (let z : length (h .content-held) ≡ n = x .ready .content-rows in omega arith)
 
   -- what is read there, the temperature as the code has it, is ready
-  pub reads-ready : (t : ℤ) → t ≡ getD (h .temp) i (pos 0) → Ready (getD (h .flow) i 0) (getD (h .content) i 0) t (getD (h .press) i 0) (getD f i 0) (getD c i 0)
+  pub reads-ready : (t : ℤ) → t ≡ getD (h .series .temp) i (pos 0) → Ready (getD (h .series .flow) i 0) (getD (h .series .content) i 0) t (getD (h .series .press) i 0) (getD f i 0) (getD c i 0)
   reads-ready t e = rw (e, at-flow, at-content, at-flow-held, at-content-held) (x .ready .ready i l)
 
   -- and its entry is the interval's
-  pub reads-entry : (t : ℤ) → t ≡ getD (h .temp) i (pos 0) → (r : Entry)
-      → r ≡ entryOf (getD (h .flow) i 0) (getD (h .content) i 0) t (getD (h .press) i 0) (getD (h .status) i 0) (getD f i 0) (getD c i 0) → r ≡ entryAt h i
+  pub reads-entry : (t : ℤ) → t ≡ getD (h .series .temp) i (pos 0) → (r : Entry)
+      → r ≡ entryOf (getD (h .series .flow) i 0) (getD (h .series .content) i 0) t (getD (h .series .press) i 0) (getD (h .series .status) i 0) (getD f i 0) (getD c i 0) → r ≡ entryAt h i
   unfolding entryAt
   reads-entry t e r q = rw (e, at-flow, at-content, at-flow-held, at-content-held) at q
 
   -- where the code answered that everything is measured, what is held is in range, and it is the entry
-  module _ (t : ℤ) (e : t ≡ getD (h .temp) i (pos 0)) (b : Bool)
-      (q : b ≡ allMeasured (getD (h .flow) i 0) (getD (h .content) i 0) t (getD (h .press) i 0) (getD (h .status) i 0)) (m : b ≡ true) where
-    none : 0 ≡ outcomeFor (getD (h .flow) i 0) (getD (h .content) i 0) t (getD (h .press) i 0) (getD (h .status) i 0) (getD f i 0) (getD c i 0)
+  module _ (t : ℤ) (e : t ≡ getD (h .series .temp) i (pos 0)) (b : Bool)
+      (q : b ≡ allMeasured (getD (h .series .flow) i 0) (getD (h .series .content) i 0) t (getD (h .series .press) i 0) (getD (h .series .status) i 0)) (m : b ≡ true) where
+    none : 0 ≡ outcomeFor (getD (h .series .flow) i 0) (getD (h .series .content) i 0) t (getD (h .series .press) i 0) (getD (h .series .status) i 0) (getD f i 0) (getD c i 0)
     none =
-        measured-outcome (getD (h .flow) i 0) (getD (h .content) i 0) t (getD (h .press) i 0) (getD (h .status) i 0) (getD f i 0) (getD c i 0)
+        measured-outcome (getD (h .series .flow) i 0) (getD (h .series .content) i 0) t (getD (h .series .press) i 0) (getD (h .series .status) i 0) (getD f i 0) (getD c i 0)
         (sym q ∙ m)
 
-    pub measured-inside : Inside (getD f i 0) t (getD (h .press) i 0) × (getD c i 0 ≤ contentMost)
+    pub measured-inside : Inside (getD f i 0) t (getD (h .series .press) i 0) × (getD c i 0 ≤ contentMost)
     measured-inside =
-        counted-inside (getD (h .flow) i 0) (getD (h .content) i 0) t (getD (h .press) i 0) (getD (h .status) i 0) (getD f i 0) (getD c i 0)
+        counted-inside (getD (h .series .flow) i 0) (getD (h .series .content) i 0) t (getD (h .series .press) i 0) (getD (h .series .status) i 0) (getD f i 0) (getD c i 0)
         (reads-ready t e) (subst (λ (k : ℕ). k < 3) none (let w : 0 < 3 = omega arith in w))
 
-    pub measured-entry : (litres : ℕ) → litres ≡ methaneLitres (getD f i 0) (getD c i 0) t (getD (h .press) i 0)
+    pub measured-entry : (litres : ℕ) → litres ≡ methaneLitres (getD f i 0) (getD c i 0) t (getD (h .series .press) i 0)
         → record { outcome = 0; flow = getD f i 0; content = getD c i 0; litres = litres } ≡ entryAt h i
     measured-entry litres z =
         reads-entry t e (record { outcome = 0; flow = getD f i 0; content = getD c i 0; litres = litres })
-        (counted-entry (getD (h .flow) i 0) (getD (h .content) i 0) t (getD (h .press) i 0) (getD (h .status) i 0) (getD f i 0) (getD c i 0)
+        (counted-entry (getD (h .series .flow) i 0) (getD (h .series .content) i 0) t (getD (h .series .press) i 0) (getD (h .series .status) i 0) (getD f i 0) (getD c i 0)
         0 none (omega arith) litres z)
 
 -- ---- start, step and end
@@ -217,8 +219,8 @@ module _ {h : Held} {n : ℕ} {old o f c counts : List ℕ} {methane i : ℕ} (x
   pub going-all : n ≤ i → Finished h o f c (record { counts = counts; methane = methane })
   unfolding sumsOf
   going-all l =
-      let size : length (h .flow) ≡ n = x .ready .flows in
-      let at : i ≡ length (h .flow) = le-antisymm (let w : i ≤ n = x .within in omega arith) (omega arith) in
+      let size : length (h .series .flow) ≡ n = x .ready .long .flow in
+      let at : i ≡ length (h .series .flow) = le-antisymm (let w : i ≤ n = x .within in omega arith) (omega arith) in
       record {
         outcome-row = done old (λ k. entryAt h k .outcome) o at (x .outcome-row) (x .old-length ∙ sym size);
         flow-row = done (h .flow-held) (λ k. entryAt h k .flow) f at (x .flow-row) (x .ready .flow-rows ∙ sym size);
@@ -226,17 +228,17 @@ module _ {h : Held} {n : ℕ} {old o f c counts : List ℕ} {methane i : ℕ} (x
         sums = λ t. record { counts = tens at t; methane = (x .sum ∙ ap (λ (m : ℕ). sumTo m (λ k. entryAt h k .litres)) at) t };
       }
     where
-      done : (base : List ℕ) (g : ℕ → ℕ) (row : List ℕ) → i ≡ length (h .flow) → row ≡ build i g ++ drop i base → length base ≡ length (h .flow) → row ≡ build (length (h .flow)) g
-      done base g row at e s = e ∙ ap (λ (m : ℕ). build m g ++ drop m base) at ∙ build-done (length (h .flow)) g base s
+      done : (base : List ℕ) (g : ℕ → ℕ) (row : List ℕ) → i ≡ length (h .series .flow) → row ≡ build i g ++ drop i base → length base ≡ length (h .series .flow) → row ≡ build (length (h .series .flow)) g
+      done base g row at e s = e ∙ ap (λ (m : ℕ). build m g ++ drop m base) at ∙ build-done (length (h .series .flow)) g base s
 
-      tens : i ≡ length (h .flow) → counts ≡ build outcomes (countOf (length (h .flow)) (λ k. entryAt h k .outcome))
+      tens : i ≡ length (h .series .flow) → counts ≡ build outcomes (countOf (length (h .series .flow)) (λ k. entryAt h k .outcome))
       tens at =
-          ext-getD 0 counts (build 10 (countOf (length (h .flow)) (λ k. entryAt h k .outcome)))
-          (x .ten ∙ sym (length-build 10 (countOf (length (h .flow)) (λ k. entryAt h k .outcome))))
+          ext-getD 0 counts (build 10 (countOf (length (h .series .flow)) (λ k. entryAt h k .outcome)))
+          (x .ten ∙ sym (length-build 10 (countOf (length (h .series .flow)) (λ k. entryAt h k .outcome))))
           (λ j z. let w : j < 10 = subst (λ (m : ℕ). j < m) (x .ten) z in
           x .each j w
           ∙ ap (λ (m : ℕ). countOf m (λ k. entryAt h k .outcome) j) at
-          ∙ sym (getD-build 10 (countOf (length (h .flow)) (λ k. entryAt h k .outcome)) j 0 w))
+          ∙ sym (getD-build 10 (countOf (length (h .series .flow)) (λ k. entryAt h k .outcome)) j 0 w))
 
   -- addresses within the rows, and the next turn
   pub index-fits : i < n → Fits w64 (i * 2) × Fits w64 (i * 4)
@@ -248,14 +250,8 @@ module _ {h : Held} {n : ℕ} {old o f c counts : List ℕ} {methane i : ℕ} (x
   pub turns-less : i < n → n - (i + 1) < n - i
   turns-less l = omega arith
 
-  pub inside-series : i < n → (i < length (h .flow)) × (i < length (h .content)) × (i < length (h .temp)) × (i < length (h .press)) × (i < length (h .status))
-  inside-series l = (
-    subst (λ (m : ℕ). i < m) (sym (x .ready .flows)) l,
-    subst (λ (m : ℕ). i < m) (sym (x .ready .contents)) l,
-    subst (λ (m : ℕ). i < m) (sym (x .ready .temps)) l,
-    subst (λ (m : ℕ). i < m) (sym (x .ready .presses)) l,
-    subst (λ (m : ℕ). i < m) (sym (x .ready .statuses)) l,
-  )
+  pub inside-series : i < n → Within (h .series) i
+  inside-series = within (h .series) n i (x .ready .long)
 
   pub inside-rows : i < n → (i < length o) × (i < length f) × (i < length c)
   inside-rows l =

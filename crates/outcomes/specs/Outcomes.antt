@@ -9,6 +9,7 @@ use lib.IntN.{ℤ, pos}
 use lib.ListN.{length, getD}
 use Rattle.rows.specs.Rows.{pick, both, either, build, sumTo, countOf}
 use Rattle.protocol.specs.Ranges.{intervalsMost, mark, tempMissing, pressMissing, tempRight, pressRight, flowMost, contentMost}
+use Rattle.series.specs.Series.{Series, Long}
 use Rattle.volume.specs.Volume.{methaneLitres}
 use Rattle.runs.specs.Runs.{excluding}
 use Rattle.outcomes.specs.declared.Entry.{Entry}
@@ -54,11 +55,7 @@ litresFor outcome flow content temp press = pick (counted outcome) (methaneLitre
 
 -- one device's rows when gaps are filled: the five series as recorded, and what each interval holds for flow and content
 pub record Held : Type 0 where
-  pub flow : List ℕ
-  pub content : List ℕ
-  pub temp : List ℤ
-  pub press : List ℕ
-  pub status : List ℕ
+  pub series : Series
   pub flow-held : List ℕ
   pub content-held : List ℕ
 
@@ -76,7 +73,7 @@ entryOf flow content temp press status flowHeld contentHeld =
 
 unfoldable pub entryAt : Held → ℕ → Entry
 entryAt h i =
-    entryOf (getD (h .flow) i mark) (getD (h .content) i mark) (getD (h .temp) i (pos 0)) (getD (h .press) i 0) (getD (h .status) i 0)
+    entryOf (getD (h .series .flow) i mark) (getD (h .series .content) i mark) (getD (h .series .temp) i (pos 0)) (getD (h .series .press) i 0) (getD (h .series .status) i 0)
     (getD (h .flow-held) i mark) (getD (h .content-held) i mark)
 
 -- each count is the number of intervals with that outcome, beside the sum of their litres
@@ -100,21 +97,17 @@ pub record Ready (flow content : ℕ) (temp : ℤ) (press flowHeld contentHeld :
 
 pub record ReadyAt (h : Held) (n : ℕ) : Type 0 where
   pub few : n ≤ intervalsMost
-  pub flows : length (h .flow) ≡ n
-  pub contents : length (h .content) ≡ n
-  pub temps : length (h .temp) ≡ n
-  pub presses : length (h .press) ≡ n
-  pub statuses : length (h .status) ≡ n
+  pub long : Long (h .series) n
   pub flow-rows : length (h .flow-held) ≡ n
   pub content-rows : length (h .content-held) ≡ n
-  pub ready : (i : ℕ) → i < n → Ready (getD (h .flow) i mark) (getD (h .content) i mark) (getD (h .temp) i (pos 0)) (getD (h .press) i 0) (getD (h .flow-held) i mark) (getD (h .content-held) i mark)
+  pub ready : (i : ℕ) → i < n → Ready (getD (h .series .flow) i mark) (getD (h .series .content) i mark) (getD (h .series .temp) i (pos 0)) (getD (h .series .press) i 0) (getD (h .flow-held) i mark) (getD (h .content-held) i mark)
 
 -- the three rows and the sums after the last pass
 pub record Finished (h : Held) (outcomeRow flowRow contentRow : List ℕ) (given : Sums) : Type 0 where
-  pub outcome-row : outcomeRow ≡ build (length (h .flow)) (λ i. entryAt h i .outcome)
-  pub flow-row : flowRow ≡ build (length (h .flow)) (λ i. entryAt h i .flow)
-  pub content-row : contentRow ≡ build (length (h .flow)) (λ i. entryAt h i .content)
-  pub sums : given ≡ sumsOf (length (h .flow)) (entryAt h)
+  pub outcome-row : outcomeRow ≡ build (length (h .series .flow)) (λ i. entryAt h i .outcome)
+  pub flow-row : flowRow ≡ build (length (h .series .flow)) (λ i. entryAt h i .flow)
+  pub content-row : contentRow ≡ build (length (h .series .flow)) (λ i. entryAt h i .content)
+  pub sums : given ≡ sumsOf (length (h .series .flow)) (entryAt h)
 
 -- the order decides: stopped before everything, no record of status before a missing temperature, and so on
 stopped : outcomeOf 0 true true true 8 9 ≡ 3

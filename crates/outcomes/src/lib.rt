@@ -5,6 +5,7 @@ ghost use lib.Dec.{eqb};
 ghost use lib.ListN.{length};
 ghost use Rattle.rows.specs.Rows.{pick, either};
 ghost use Rattle.protocol.specs.Ranges.{tempMissing, pressMissing};
+ghost use Rattle.series.specs.Series.{seriesNow, seriesAt};
 ghost use Rattle.outcomes.specs.Outcomes.{
   outcomeOf,
   allMeasured,
@@ -168,27 +169,11 @@ pub fn finish(
     content_used: &mut [u16],
 ) -> Sums
     requires { ⌜ ReadyAt
-        (record {
-          flow = now flow;
-          content = now content;
-          temp = now temp;
-          press = now press;
-          status = now status;
-          flow-held = now «flow_used»;
-          content-held = now «content_used»;
-        })
+        (record { series = seriesNow flow content temp press status; flow-held = now «flow_used»; content-held = now «content_used» })
         (length (now flow))
         × (length (now outcomes) ≡ length (now flow)) ⌝ }
     ensures { λ r. ⌜ Finished
-        (record {
-          flow = now (flow .entry);
-          content = now (content .entry);
-          temp = now (temp .entry);
-          press = now (press .entry);
-          status = now (status .entry);
-          flow-held = now («flow_used» .entry);
-          content-held = now («content_used» .entry);
-        })
+        (record { series = seriesAt flow content temp press status; flow-held = now («flow_used» .entry); content-held = now («content_used» .entry) })
         (now (outcomes .exit)) (now («flow_used» .exit)) (now («content_used» .exit)) r ⌝ }
 {
     let n = flow.len();

@@ -34,7 +34,7 @@ use Rattle.checks.proofs.Laws.{accepted, judged-clean, judged-refused}
 use Rattle.figures.specs.declared.Figures.{Figures}
 use Rattle.quantify.specs.declared.Answer.{Answer}
 use Rattle.quantify.specs.declared.Answer.the-variants.{Accepted, Refused}
-use Rattle.quantify.specs.Sheet.{lentIn, fuelIn, figuresFrom, figuresOf}
+use Rattle.quantify.specs.Sheet.{lentIn, fuelSum, fuelIn, figuresFrom, figuresOf}
 use Rattle.quantify.specs.Promise.{answerBy, rowsBy, numberIn, deviceIn, placeIn, Told, usedIn, Settled}
 use Rattle.quantify.proofs.Sound.{sound}
 
@@ -67,13 +67,13 @@ module _ (c : Call) (x : NotRefused c) where
         getD-join (c .intervals) (c .devices) (contentPart (lentIn c)) 0 (λ j z. length-build (c .intervals) (contentUsedAt (recordsOf (lentIn c) j))) d k h l
         ∙ getD-build (c .intervals) (contentUsedAt (recordsOf (lentIn c) d)) k 0 l
 
-    temp-at : getD (c .temp) (d * c .intervals + k) (pos 0) ≡ getD (recordsOf (lentIn c) d .temp) k (pos 0)
+    temp-at : getD (c .series .temp) (d * c .intervals + k) (pos 0) ≡ getD (recordsOf (lentIn c) d .series .temp) k (pos 0)
     unfolding recordsOf
-    temp-at = sym (getD-cut (c .temp) (d * c .intervals) (d * c .intervals + c .intervals) k (pos 0) (omega arith))
+    temp-at = sym (getD-cut (c .series .temp) (d * c .intervals) (d * c .intervals + c .intervals) k (pos 0) (omega arith))
 
-    press-at : getD (c .press) (d * c .intervals + k) 0 ≡ getD (recordsOf (lentIn c) d .press) k 0
+    press-at : getD (c .series .press) (d * c .intervals + k) 0 ≡ getD (recordsOf (lentIn c) d .series .press) k 0
     unfolding recordsOf
-    press-at = sym (getD-cut (c .press) (d * c .intervals) (d * c .intervals + c .intervals) k 0 (omega arith))
+    press-at = sym (getD-cut (c .series .press) (d * c .intervals) (d * c .intervals + c .intervals) k 0 (omega arith))
 
   -- ---- demand 3
 
@@ -81,7 +81,7 @@ module _ (c : Call) (x : NotRefused c) where
   row-whole d h = row-long (lentIn c) (c .devices) (sound c x) d h
 
   inside-at : (d k : ℕ) → d < c .devices → k < c .intervals → counted (getD (after .outcome) (d * c .intervals + k) 0) ≡ true
-      → (0 < kelvinOf (getD (c .temp) (d * c .intervals + k) (pos 0))) × (getD (after .content) (d * c .intervals + k) 0 ≤ contentMost)
+      → (0 < kelvinOf (getD (c .series .temp) (d * c .intervals + k) (pos 0))) × (getD (after .content) (d * c .intervals + k) 0 ≤ contentMost)
   inside-at d k h l e =
       let y = counted-inside (recordsOf (lentIn c) d) (sound c x .right d h) k (subst (λ (m : ℕ). k < m) (sym (row-whole d h)) l) (ap counted (sym (outcome-at d k h l)) ∙ e) in (
         subst (λ (t : ℤ). 0 < kelvinOf t) (sym (temp-at d k h l)) (let z = y .0 .kelvin-least in omega arith),
@@ -97,7 +97,7 @@ module _ (c : Call) (x : NotRefused c) where
   litres-at d h =
       sumTo-ext (c .intervals)
       (λ k. pick (counted (getD (after .outcome) (d * c .intervals + k) 0))
-      (methaneLitres (getD (after .flow) (d * c .intervals + k) 0) (getD (after .content) (d * c .intervals + k) 0) (getD (c .temp) (d * c .intervals + k) (pos 0)) (getD (c .press) (d * c .intervals + k) 0)) 0)
+      (methaneLitres (getD (after .flow) (d * c .intervals + k) 0) (getD (after .content) (d * c .intervals + k) 0) (getD (c .series .temp) (d * c .intervals + k) (pos 0)) (getD (c .series .press) (d * c .intervals + k) 0)) 0)
       (litresAt (recordsOf (lentIn c) d))
       (λ k l. same-litres (outcome-at d k h l) (flow-at d k h l) (content-at d k h l) (temp-at d k h l) (press-at d k h l))
       ∙ ap (λ (n : ℕ). sumTo n (litresAt (recordsOf (lentIn c) d))) (sym (row-whole d h))
@@ -107,7 +107,7 @@ module _ (c : Call) (x : NotRefused c) where
   reduction-is = refl
 
   fair-call : Fair (exactReduction (usedIn c after)) (figuresOf c .tonnes) (promised (usedIn c after))
-  unfolding usedIn fuelIn
+  unfolding usedIn fuelSum
   fair-call =
       subst (λ (t : ℤ). Fair (exactReduction (usedIn c after)) t (promised (usedIn c after))) (sym reduction-is)
       (demand-3-of (usedIn c after) warm (kindIn (lentIn c)) (litresIn (lentIn c)) (λ d h. refl) litres-at)

@@ -10,12 +10,13 @@ use lib.IntN.{ℤ, pos}
 use lib.ListN.{length, getD}
 use Rattle.rows.specs.Rows.{cut}
 use Rattle.rows.proofs.Laws.{length-cut, getD-cut, room}
+use Rattle.series.specs.Series.{Long, InRange, rowOf, seriesPart}
+use Rattle.series.proofs.Laws.{part-long, part-in-range, checks-part-long}
 use Rattle.drift.specs.Drift.{Ordered, Instrument}
 use Rattle.device.specs.Device.{Records, Right, instrumentOf, intervalsOf}
 use Rattle.devices.specs.Devices.{Lent, recordsOf, Sound}
 use Rattle.checks.specs.Call.{Call}
 use Rattle.checks.specs.Accepted.{Accepted}
-use Rattle.checks.proofs.Parts.{device-part}
 use Rattle.quantify.specs.Sheet.{lentIn}
 
 module _ {A : Type 0} where
@@ -34,48 +35,40 @@ place-at xs d g j h l =
     ∙ ap (λ (k : ℕ). getD xs k 0) (let z : d * 64 + (32 * g + j) ≡ 32 * (2 * d + g) + j = omega arith in z)
 
 module _ (c : Call) (x : Accepted c) (d : ℕ) (h : d < c .devices) where
-  count-at : (g : ℕ) → g < 2 → getD (cut (c .counts) (d * 2) (d * 2 + 2)) g 0 ≡ getD (c .counts) (2 * d + g) 0
-  count-at g l = cut-at (c .counts) (d * 2) 2 g 0 l ∙ ap (λ (k : ℕ). getD (c .counts) k 0) (let z : d * 2 + g ≡ 2 * d + g = omega arith in z)
+  count-at : (g : ℕ) → g < 2 → getD (cut (c .checks .counts) (d * 2) (d * 2 + 2)) g 0 ≡ getD (c .checks .counts) (2 * d + g) 0
+  count-at g l = cut-at (c .checks .counts) (d * 2) 2 g 0 l ∙ ap (λ (k : ℕ). getD (c .checks .counts) k 0) (let z : d * 2 + g ≡ 2 * d + g = omega arith in z)
 
   ordered : (g : ℕ) → g < 2 → Ordered (instrumentOf (recordsOf (lentIn c) d) g) (c .intervals)
   unfolding instrumentOf recordsOf
   ordered g l =
-      let k : getD (cut (c .counts) (d * 2) (d * 2 + 2)) g 0 ≡ getD (c .counts) (2 * d + g) 0 = count-at g l in
+      let k : getD (cut (c .checks .counts) (d * 2) (d * 2 + 2)) g 0 ≡ getD (c .checks .counts) (2 * d + g) 0 = count-at g l in
       let i : 2 * d + g < 2 * c .devices = omega arith in
-      let few : getD (c .counts) (2 * d + g) 0 ≤ 32 = x .count-most (2 * d + g) i in
-      let pl : length (cut (c .places) (d * 64) (d * 64 + 64)) ≡ 64 = cut-long (c .places) (d * 64) 64 (omega (arith, x .shape .places-long)) in
-      let dl : length (cut (c .drifts) (d * 64) (d * 64 + 64)) ≡ 64 = cut-long (c .drifts) (d * 64) 64 (omega (arith, x .shape .drifts-long)) in
+      let few : getD (c .checks .counts) (2 * d + g) 0 ≤ 32 = x .count-most (2 * d + g) i in
+      let pl : length (cut (c .checks .places) (d * 64) (d * 64 + 64)) ≡ 64 = cut-long (c .checks .places) (d * 64) 64 (omega (arith, x .shape .roomy .places)) in
+      let dl : length (cut (c .checks .drifts) (d * 64) (d * 64 + 64)) ≡ 64 = cut-long (c .checks .drifts) (d * 64) 64 (omega (arith, x .shape .roomy .drifts)) in
       record {
         few = omega arith;
-        places-kept = cut-long (cut (c .places) (d * 64) (d * 64 + 64)) (32 * g) 32 (omega arith);
-        drifts-kept = cut-long (cut (c .drifts) (d * 64) (d * 64 + 64)) (32 * g) 32 (omega arith);
+        places-kept = cut-long (cut (c .checks .places) (d * 64) (d * 64 + 64)) (32 * g) 32 (omega arith);
+        drifts-kept = cut-long (cut (c .checks .drifts) (d * 64) (d * 64 + 64)) (32 * g) 32 (omega arith);
         inside = λ j m.
-            subst (λ (p : ℕ). p ≤ c .intervals) (sym (place-at (c .places) d g j l (omega arith)))
+            subst (λ (p : ℕ). p ≤ c .intervals) (sym (place-at (c .checks .places) d g j l (omega arith)))
             (x .place-most (2 * d + g) j i (omega arith));
         rising = λ j n m o.
-            subst₂ (λ (p q : ℕ). p < q) (sym (place-at (c .places) d g j l (omega arith))) (sym (place-at (c .places) d g n l (omega arith)))
+            subst₂ (λ (p q : ℕ). p < q) (sym (place-at (c .checks .places) d g j l (omega arith))) (sym (place-at (c .checks .places) d g n l (omega arith)))
             (x .places-rise (2 * d + g) j n i m (omega arith));
       }
 
   right : Right (recordsOf (lentIn c) d)
   unfolding recordsOf
   right =
-      let r = device-part c x d h in
-      let n : length (cut (c .flow) (d * c .intervals) (d * c .intervals + c .intervals)) ≡ c .intervals = r .flows in
+      let long : Long (seriesPart (c .series) (c .intervals) d) (c .intervals) = part-long (c .series) (c .devices) (c .intervals) d h (x .shape .long) in
+      let n : length (rowOf (c .series .flow) (c .intervals) d) ≡ c .intervals = long .flow in
       record {
         few = subst (λ (m : ℕ). m ≤ 35136) (sym n) (x .shape .intervals-most);
-        contents = r .contents ∙ sym n;
-        temps = r .temps ∙ sym n;
-        presses = r .presses ∙ sym n;
-        statuses = r .statuses ∙ sym n;
-        counts-two = cut-long (c .counts) (d * 2) 2 (omega (arith, x .shape .counts-long));
-        places-kept = cut-long (c .places) (d * 64) 64 (omega (arith, x .shape .places-long));
-        drifts-kept = cut-long (c .drifts) (d * 64) 64 (omega (arith, x .shape .drifts-long));
+        long = subst (Long (seriesPart (c .series) (c .intervals) d)) (sym n) long;
+        kept = checks-part-long (c .checks) (c .devices) d h (x .shape .roomy);
         ordered = λ g l. subst (Ordered (instrumentOf (recordsOf (lentIn c) d) g)) (sym n) (ordered g l);
-        flow-right = λ i l. r .flow-right i (subst (λ (m : ℕ). i < m) n l) 0;
-        content-right = λ i l. r .content-right i (subst (λ (m : ℕ). i < m) n l) 0;
-        temp-right = λ i l. r .temp-right i (subst (λ (m : ℕ). i < m) n l) (pos 0);
-        press-right = λ i l. r .press-right i (subst (λ (m : ℕ). i < m) n l) 0;
+        in-range = subst (InRange (seriesPart (c .series) (c .intervals) d)) (sym n) (part-in-range (c .series) (c .devices) (c .intervals) d h (x .in-range));
       }
 
 pub sound : (c : Call) → Accepted c → Sound (lentIn c) (c .devices)
@@ -86,13 +79,7 @@ sound c x =
       few = s .intervals-most;
       few-devices = s .devices-most;
       kinds-long = s .kinds-long;
-      counts-long = s .counts-long;
-      places-long = s .places-long;
-      drifts-long = s .drifts-long;
-      flow-long = s .flow-long;
-      content-long = s .content-long;
-      temp-long = s .temp-long;
-      press-long = s .press-long;
-      status-long = s .status-long;
+      roomy = s .roomy;
+      long = s .long;
       right = right c x;
     }

@@ -60,12 +60,12 @@ usedIn c rows =
       counted = λ d k. counted (getD (rows .outcome) (d * c .intervals + k) 0);
       flow = λ d k. getD (rows .flow) (d * c .intervals + k) 0;
       content = λ d k. getD (rows .content) (d * c .intervals + k) 0;
-      temp = λ d k. getD (c .temp) (d * c .intervals + k) (pos 0);
-      press = λ d k. getD (c .press) (d * c .intervals + k) 0;
+      temp = λ d k. getD (c .series .temp) (d * c .intervals + k) (pos 0);
+      press = λ d k. getD (c .series .press) (d * c .intervals + k) 0;
       kind = λ d. getD (c .kinds) d 0;
-      fuels = length (c .quantity);
-      quantity = λ k. getD (c .quantity) k 0;
-      factor = λ k. getD (c .factor) k 0;
+      fuels = length (c .fuel .quantity);
+      quantity = λ k. getD (c .fuel .quantity) k 0;
+      factor = λ k. getD (c .fuel .factor) k 0;
     }
 
 pub record Settled (c : Call) (before after : Rows) (a : Answer) : Type 0 where

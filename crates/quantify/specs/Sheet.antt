@@ -1,13 +1,11 @@
 -- The sheet's figures: "counted, replaced (outcomes 1 and 2, part of counted) and excluded are device-intervals; intervals and
 -- devices are N and D; the litre and mg lines are sums over devices, fuel once".
 -- Assumes nothing.
-use Prim.Native.Nat.{ℕ, _+_, _≤_, _<_}
-use mathlib.Core.Path.{_≡_}
-use mathlib.Core.List.{List}
+use Prim.Native.Nat.{ℕ}
 use lib.ListN.{length, getD}
 use lib.IntN.{ℤ}
 use Rattle.checks.specs.Call.{Call}
-use Rattle.protocol.specs.Ranges.{fuelsMost}
+use Rattle.series.specs.Series.{Fuel}
 use Rattle.balance.specs.Balance.{fuelMg, equation1, tonnesOf, creditsOf}
 use Rattle.figures.specs.declared.Figures.{Figures}
 use Rattle.devices.specs.Devices.{Lent}
@@ -16,23 +14,14 @@ use Rattle.devices.specs.declared.Totals.{Totals}
 
 -- the part of a call that the devices' rows are worked out from
 abbrev pub lentIn : Call → Lent
-lentIn c =
-    record {
-      intervals = c .intervals;
-      kinds = c .kinds;
-      counts = c .counts;
-      places = c .places;
-      drifts = c .drifts;
-      flow = c .flow;
-      content = c .content;
-      temp = c .temp;
-      press = c .press;
-      status = c .status;
-    }
+lentIn c = record { intervals = c .intervals; kinds = c .kinds; checks = c .checks; series = c .series }
 
 -- "fuel once"
-unfoldable pub fuelIn : Call → ℕ
-fuelIn c = fuelMg (length (c .quantity)) (λ k. getD (c .quantity) k 0) (λ k. getD (c .factor) k 0)
+unfoldable pub fuelSum : Fuel → ℕ
+fuelSum f = fuelMg (length (f .quantity)) (λ k. getD (f .quantity) k 0) (λ k. getD (f .factor) k 0)
+
+abbrev pub fuelIn : Call → ℕ
+fuelIn c = fuelSum (c .fuel)
 
 -- the sheet's lines, in order, from the sums over devices and the fuel
 unfoldable pub figuresFrom : ℕ → ℕ → Totals → ℕ → Figures
@@ -58,10 +47,3 @@ figuresFrom intervals devices t fuel =
 
 unfoldable pub figuresOf : Call → Figures
 figuresOf c = figuresFrom (c .intervals) (c .devices) (totalsOf (lentIn c) (c .devices)) (fuelIn c)
-
--- what the fuel lines are within
-pub record Fuels (quantity factor : List ℕ) : Type 0 where
-  pub same-length : length factor ≡ length quantity
-  pub few : length quantity ≤ fuelsMost
-  pub quantity-most : (j : ℕ) → j < length quantity → getD quantity j 0 ≤ 1000000000
-  pub factor-most : (j : ℕ) → j < length quantity → getD factor j 0 ≤ 4000000

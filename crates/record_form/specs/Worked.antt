@@ -7,6 +7,7 @@ use lib.IntN.{pos, negsuc}
 use lib.ListN.{drop}
 use Rattle.text.specs.Bytes.{bytes}
 use Rattle.text.specs.Decimal.{dec}
+use Rattle.series.specs.Series.{seriesOf, checksOf, fuelOf}
 use Rattle.record_form.specs.Field as Field
 use Rattle.record_form.specs.Field.{lineText}
 use Rattle.record_form.specs.Plan.{Line, lineIs, done, After, textOf}
@@ -46,32 +47,18 @@ worked-record = search (device-follows, arith) depth 30
 -- rows for one fuel line, one device and two entries
 abbrev blank : Rows
 blank = record {
-  quantity = 9 ∷ [];
-  factor = 9 ∷ [];
+  fuel = fuelOf (9 ∷ []) (9 ∷ []);
   kinds = 9 ∷ [];
-  counts = 9 ∷ 9 ∷ [];
-  places = 9 ∷ [];
-  drifts = pos 9 ∷ [];
-  flow = 9 ∷ 9 ∷ [];
-  content = 9 ∷ 9 ∷ [];
-  temp = pos 9 ∷ pos 9 ∷ [];
-  press = 9 ∷ 9 ∷ [];
-  status = 9 ∷ 9 ∷ [];
+  checks = checksOf (9 ∷ 9 ∷ []) (9 ∷ []) (pos 9 ∷ []);
+  series = seriesOf (9 ∷ 9 ∷ []) (9 ∷ 9 ∷ []) (pos 9 ∷ pos 9 ∷ []) (9 ∷ 9 ∷ []) (9 ∷ 9 ∷ []);
 }
 
 -- The example leaves each value in its row, and what it has no line for as it was.
 worked-stored : stored worked blank ≡ record {
-  quantity = 1000 ∷ [];
-  factor = 700000 ∷ [];
+  fuel = fuelOf (1000 ∷ []) (700000 ∷ []);
   kinds = 2 ∷ [];
-  counts = 0 ∷ 0 ∷ [];
-  places = 9 ∷ [];
-  drifts = pos 9 ∷ [];
-  flow = 30000 ∷ 9 ∷ [];
-  content = 10000 ∷ 9 ∷ [];
-  temp = pos 2000 ∷ pos 9 ∷ [];
-  press = 101325 ∷ 9 ∷ [];
-  status = 1 ∷ 9 ∷ [];
+  checks = checksOf (0 ∷ 0 ∷ []) (9 ∷ []) (pos 9 ∷ []);
+  series = seriesOf (30000 ∷ 9 ∷ []) (10000 ∷ 9 ∷ []) (pos 2000 ∷ pos 9 ∷ []) (101325 ∷ 9 ∷ []) (1 ∷ 9 ∷ []);
 }
 worked-stored = refl
 
@@ -89,10 +76,10 @@ gap-text : textOf gap ≡ bytes "flow=\nch4=\ntemp=\npress=\nstatus=0\n"
 unfolding lineText dec
 gap-text = refl
 
-gap-flow : stored gap blank .flow ≡ 9 ∷ 65535 ∷ []
+gap-flow : stored gap blank .series .flow ≡ 9 ∷ 65535 ∷ []
 gap-flow = refl
 
-gap-temp : stored gap blank .temp ≡ pos 9 ∷ negsuc 32767 ∷ []
+gap-temp : stored gap blank .series .temp ≡ pos 9 ∷ negsuc 32767 ∷ []
 gap-temp = refl
 
 -- One check of each instrument of device 1, of no interval: their places are 64 and 96.

@@ -24,6 +24,7 @@ use Rattle.quantify.specs.declared.Answer.{Answer}
 use Rattle.quantify.specs.declared.Answer.the-variants as Answer
 use Rattle.checks.specs.Steps as Steps
 use Rattle.checks.specs.declared.Refusal.{Refusal}
+use Rattle.series.specs.Series.{seriesTake, checksTake, fuelTake}
 use Rattle.checks.specs.Call.{Call}
 use Rattle.checks.specs.Steps.{judged}
 use Rattle.devices.specs.Devices as Devices
@@ -91,16 +92,9 @@ callWith h r x y z =
       devices = h .devices;
       mine = h .mine;
       kinds = take (h .devices) (r .kinds);
-      counts = take (2 * h .devices) (r .counts);
-      places = take (64 * h .devices) (r .places);
-      drifts = take (64 * h .devices) (r .drifts);
-      flow = take (h .devices * h .intervals) (r .flow);
-      content = take (h .devices * h .intervals) (r .content);
-      temp = take (h .devices * h .intervals) (r .temp);
-      press = take (h .devices * h .intervals) (r .press);
-      status = take (h .devices * h .intervals) (r .status);
-      quantity = take (h .fuels) (r .quantity);
-      factor = take (h .fuels) (r .factor);
+      checks = checksTake (h .devices) (r .checks);
+      series = seriesTake (h .devices * h .intervals) (r .series);
+      fuel = fuelTake (h .fuels) (r .fuel);
       outcome-length = x;
       flow-row-length = y;
       content-row-length = z;

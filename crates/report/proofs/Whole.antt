@@ -14,6 +14,8 @@ use borrow.Author.Tests.{leb-true, leb-false}
 use Rattle.rows.specs.Rows.{pick, both}
 use Rattle.protocol.specs.Ranges.{fromOne, intervalsMost, devicesMost}
 use Rattle.text.specs.Answer.{Leads}
+use Rattle.series.specs.Series.{Room, seriesTake, checksTake, fuelTake}
+use Rattle.series.proofs.Laws.{each-as-long}
 use Rattle.checks.specs.Call.{Call}
 use Rattle.checks.specs.Steps.{judged}
 use Rattle.checks.proofs.Laws.{within-most}
@@ -26,7 +28,7 @@ use Rattle.record_form.specs.Plan.{Line, lineIs}
 use Rattle.record_form.specs.Rows.{Rows, stored, roomOf, lesser}
 use Rattle.record_form.specs.File.{Record, Fine, file}
 use Rattle.record_form.proofs.Parts.{withHead}
-use Rattle.record_form.proofs.Covered.{SeriesRoom, Alike, SameLong, covered, stored-long}
+use Rattle.record_form.proofs.Covered.{SameLong, covered, stored-long}
 use Rattle.record.specs.Read as Read
 use Rattle.record.specs.Read.{ReadRight, Accepted, Outside, Wrong}
 use Rattle.record.specs.declared.Header.{Header}
@@ -55,10 +57,10 @@ room-first a b c d e m h =
     let t : m ≤ lesser d e = omega (arith, s, lesser-second c (lesser d e)) in
     (x, y, z, omega (arith, t, lesser-first d e _ refl), omega (arith, t, lesser-second d e))
 
-pub roomy : (r : Rows) (m : ℕ) → m ≤ roomOf r → SeriesRoom m r
+pub roomy : (r : Rows) (m : ℕ) → m ≤ roomOf r → Room (r .series) m
 roomy r m h =
-    let x : (m ≤ length (r .flow)) × (m ≤ length (r .content)) × (m ≤ length (r .temp)) × (m ≤ length (r .press)) × (m ≤ length (r .status)) =
-    room-first (length (r .flow)) (length (r .content)) (length (r .temp)) (length (r .press)) (length (r .status)) m h in
+    let s = r .series in
+    let x = room-first (length (s .flow)) (length (s .content)) (length (s .temp)) (length (s .press)) (length (s .status)) m h in
     record { flow = x .0; content = x .1; temp = x .2; press = x .3; status = x .4 }
 
 turned : (n d : ℕ) → d * n ≡ n * d
@@ -75,7 +77,7 @@ module _ (t : List ℕ) (l : Lent) (after : Rows) (h : Header) (x : Accepted t (
   fuels-few : h .fuels ≤ 64
   fuels-few = few-in (h .intervals) (h .devices) (h .mine) (h .fuels) (x .rest) (subst Record (x .head) (x .follows))
 
-  room-of : SeriesRoom (h .intervals * h .devices) (readerRows l)
+  room-of : Room (readerRows l .series) (h .intervals * h .devices)
   room-of = roomy (readerRows l) (h .intervals * h .devices) (x .limits .entries)
 
   pub ready : Ready h after
@@ -89,17 +91,19 @@ module _ (t : List ℕ) (l : Lent) (after : Rows) (h : Header) (x : Accepted t (
       record {
         few = n;
         few-devices = d;
-        quantity-room = omega (arith, k .quantity, fuels-few, length-replicate {A = ℕ} 64 0);
-        factor-room = omega (arith, k .factor, fuels-few, length-replicate {A = ℕ} 64 0);
+        fuel =
+            record {
+              quantity = omega (arith, k .fuel .quantity, fuels-few, length-replicate {A = ℕ} 64 0);
+              factor = omega (arith, k .fuel .factor, fuels-few, length-replicate {A = ℕ} 64 0);
+            };
         kinds-room = omega (arith, k .kinds, d, length-replicate {A = ℕ} 16 0);
-        counts-room = omega (arith, k .counts, d, length-replicate {A = ℕ} 32 0);
-        places-room = omega (arith, k .places, d, length-replicate {A = ℕ} 1024 0);
-        drifts-room = omega (arith, k .drifts, d, length-replicate 1024 (pos 0));
-        flow-room = omega (arith, k .flow, m, room-of .flow);
-        content-room = omega (arith, k .content, m, room-of .content);
-        temp-room = omega (arith, k .temp, m, room-of .temp);
-        press-room = omega (arith, k .press, m, room-of .press);
-        status-room = omega (arith, k .status, m, room-of .status);
+        checks =
+            record {
+              counts = omega (arith, k .checks .counts, d, length-replicate {A = ℕ} 32 0);
+              places = omega (arith, k .checks .places, d, length-replicate {A = ℕ} 1024 0);
+              drifts = omega (arith, k .checks .drifts, d, length-replicate 1024 (pos 0));
+            };
+        series = subst (Room (after .series)) (sym m) (each-as-long (λ e. h .intervals * h .devices ≤ e) (k .series) room-of);
       }
 
 pub ready-for : (t : List ℕ) (l : Lent) (after : Rows) (h : Header) (a : ReadAnswer) → a ≡ ReadAnswer.Record h → ReadRight t (readerRows l) after a → Ready h after
@@ -117,7 +121,7 @@ read-long t before after (ReadAnswer.Line k) x = subst (λ (r : Rows). SameLong 
 
 pub same-room : (k l : Lent) → AsLong k l → roomOf (readerRows k) ≡ roomOf (readerRows l)
 unfolding readerRows
-same-room k l e = λ i. lesser (e .flow i) (lesser (e .content i) (lesser (e .temp i) (lesser (e .press i) (e .status i))))
+same-room k l e = let s = e .series in λ i. lesser (s .flow i) (lesser (s .content i) (lesser (s .temp i) (lesser (s .press i) (s .status i))))
 
 module _ (t : List ℕ) (k l : Lent) (e : AsLong k l) where
   outside-other : {after : Rows} {offends : ℕ → ℕ → Type 0} → Outside t (readerRows l) after offends → Outside t (readerRows k) (readerRows k) offends
@@ -152,15 +156,13 @@ module _ (t : List ℕ) (k l : Lent) (e : AsLong k l) where
 
   -- The record covers each entry that quantification is lent.
   module _ (after : Rows) (h : Header) (x : Accepted t (readerRows l) after h) where
-    alike : Alike (h .intervals * h .devices) (stored (x .lines) (readerRows k)) (stored (x .lines) (readerRows l))
+    alike : seriesTake (h .devices * h .intervals) (stored (x .lines) (readerRows k) .series) ≡ seriesTake (h .devices * h .intervals) (stored (x .lines) (readerRows l) .series)
     alike =
-        subst (λ (ls : List Line). Alike (h .intervals * h .devices) (stored ls (readerRows k)) (stored ls (readerRows l))) (sym (x .head))
+        subst (λ (m : ℕ). seriesTake m (stored (x .lines) (readerRows k) .series) ≡ seriesTake m (stored (x .lines) (readerRows l) .series))
+        (sym (turned (h .intervals) (h .devices)))
+        (subst (λ (ls : List Line). seriesTake (h .intervals * h .devices) (stored ls (readerRows k) .series) ≡ seriesTake (h .intervals * h .devices) (stored ls (readerRows l) .series)) (sym (x .head))
         (covered (h .intervals) (h .devices) (lineIs Field.mine (pos (h .mine)) ∷ lineIs Field.fuels (pos (h .fuels)) ∷ x .rest) (subst Record (x .head) (x .follows)) (readerRows k) (readerRows l)
-        (room-of t k (stored (x .lines) (readerRows k)) h (accepted-other x)) (room-of t l after h x))
-
-    first : {A : Type 0} (u v : List A) → take (h .intervals * h .devices) u ≡ take (h .intervals * h .devices) v
-        → take (h .devices * h .intervals) u ≡ take (h .devices * h .intervals) v
-    first u v same = subst (λ (m : ℕ). take m u ≡ take m v) (sym (turned (h .intervals) (h .devices))) same
+        (room-of t k (stored (x .lines) (readerRows k)) h (accepted-other x)) (room-of t l after h x)))
 
     call-both : callOf h (stored (x .lines) (readerRows k)) (k .results) ≡ callOf h (stored (x .lines) (readerRows l)) (l .results)
     unfolding callOf readerRows
@@ -170,16 +172,9 @@ module _ (t : List ℕ) (k l : Lent) (e : AsLong k l) where
           devices = h .devices;
           mine = h .mine;
           kinds = take (h .devices) (stored (x .lines) (readerRows l) .kinds);
-          counts = take (2 * h .devices) (stored (x .lines) (readerRows l) .counts);
-          places = take (64 * h .devices) (stored (x .lines) (readerRows l) .places);
-          drifts = take (64 * h .devices) (stored (x .lines) (readerRows l) .drifts);
-          flow = first (stored (x .lines) (readerRows k) .flow) (stored (x .lines) (readerRows l) .flow) (alike .flow) i;
-          content = first (stored (x .lines) (readerRows k) .content) (stored (x .lines) (readerRows l) .content) (alike .content) i;
-          temp = first (stored (x .lines) (readerRows k) .temp) (stored (x .lines) (readerRows l) .temp) (alike .temp) i;
-          press = first (stored (x .lines) (readerRows k) .press) (stored (x .lines) (readerRows l) .press) (alike .press) i;
-          status = first (stored (x .lines) (readerRows k) .status) (stored (x .lines) (readerRows l) .status) (alike .status) i;
-          quantity = take (h .fuels) (stored (x .lines) (readerRows l) .quantity);
-          factor = take (h .fuels) (stored (x .lines) (readerRows l) .factor);
+          checks = checksTake (h .devices) (stored (x .lines) (readerRows l) .checks);
+          series = alike i;
+          fuel = fuelTake (h .fuels) (stored (x .lines) (readerRows l) .fuel);
           outcome-length = lesser (e .outcome i) (h .devices * h .intervals);
           flow-row-length = lesser (e .flow-used i) (h .devices * h .intervals);
           content-row-length = lesser (e .content-used i) (h .devices * h .intervals);
@@ -228,7 +223,7 @@ unfolding partsAfter answerTo
 settled-record h r s = settled-call (callOf h r s) (partsOf (h .devices * h .intervals) s)
 
 abbrev pub lentAs : Rows → Devices.Rows → Lent
-lentAs r results = record { flow = r .flow; content = r .content; temp = r .temp; press = r .press; status = r .status; results = results }
+lentAs r results = record { series = r .series; results = results }
 
 module _ (t : List ℕ) (l : Lent) (rows : Rows) (old new : List ℕ) (n : ℕ) where
   pub reported : (a : ReadAnswer) → ReadRight t (readerRows l) rows a → Leads (outputOf a rows l) old new n

@@ -5,6 +5,7 @@ use mathlib.Core.Path.{_≡_}
 use mathlib.Core.List.{List, _++_}
 use lib.ListN.{length, take, drop}
 use Rattle.protocol.specs.Ranges.{intervalsMost, devicesMost}
+use Rattle.series.specs.Series.{FuelRoom, ChecksRoom, Room, seriesTake, checksTake, fuelTake}
 use Rattle.checks.specs.Call.{Call}
 use Rattle.checks.specs.Steps.{judged}
 use Rattle.devices.specs.Devices as Devices
@@ -44,16 +45,9 @@ callOf h r results =
       devices = d;
       mine = h .mine;
       kinds = take d (r .kinds);
-      counts = take (2 * d) (r .counts);
-      places = take (64 * d) (r .places);
-      drifts = take (64 * d) (r .drifts);
-      flow = take m (r .flow);
-      content = take m (r .content);
-      temp = take m (r .temp);
-      press = take m (r .press);
-      status = take m (r .status);
-      quantity = take (h .fuels) (r .quantity);
-      factor = take (h .fuels) (r .factor);
+      checks = checksTake d (r .checks);
+      series = seriesTake m (r .series);
+      fuel = fuelTake (h .fuels) (r .fuel);
       outcome-length = partOf m (results .outcome);
       flow-row-length = partOf m (results .flow);
       content-row-length = partOf m (results .content);
@@ -73,17 +67,10 @@ resultsAfter h r results = putBack (h .devices * h .intervals) results (partsAft
 pub record Ready (h : Header) (r : Rows) : Type 0 where
   pub few : h .intervals ≤ intervalsMost
   pub few-devices : h .devices ≤ devicesMost
-  pub quantity-room : h .fuels ≤ length (r .quantity)
-  pub factor-room : h .fuels ≤ length (r .factor)
+  pub fuel : FuelRoom (r .fuel) (h .fuels)
   pub kinds-room : h .devices ≤ length (r .kinds)
-  pub counts-room : 2 * h .devices ≤ length (r .counts)
-  pub places-room : 64 * h .devices ≤ length (r .places)
-  pub drifts-room : 64 * h .devices ≤ length (r .drifts)
-  pub flow-room : h .devices * h .intervals ≤ length (r .flow)
-  pub content-room : h .devices * h .intervals ≤ length (r .content)
-  pub temp-room : h .devices * h .intervals ≤ length (r .temp)
-  pub press-room : h .devices * h .intervals ≤ length (r .press)
-  pub status-room : h .devices * h .intervals ≤ length (r .status)
+  pub checks : ChecksRoom (r .checks) (h .devices)
+  pub series : Room (r .series) (h .devices * h .intervals)
 
 pub record Quantified (h : Header) (r : Rows) (before after : Devices.Rows) (a : Answer) : Type 0 where
   pub answer : a ≡ answerTo h r before

@@ -11,6 +11,8 @@ use Rattle.text.specs.Line.{lineOf}
 use Rattle.text.specs.Answer.{Leads}
 use Rattle.sheet_text.specs.Sheet.{textOf}
 use Rattle.checks.specs.Steps as Steps
+use Rattle.series.specs.Series as Series
+use Rattle.series.specs.Series.{Series, checksOf, fuelOf}
 use Rattle.devices.specs.Devices as Devices
 use Rattle.quantify.specs.Promise.{Settled}
 use Rattle.quantify.specs.declared.Answer.{Answer}
@@ -35,28 +37,17 @@ printed (Answer.Refused r) = refusalText (Steps.numberOf r) (Steps.deviceOf r) (
 
 -- What the caller lends: five series for the record and three result rows.
 pub record Lent : Type 0 where
-  pub flow : List ℕ
-  pub content : List ℕ
-  pub temp : List ℤ
-  pub press : List ℕ
-  pub status : List ℕ
+  pub series : Series
   pub results : Devices.Rows
 
 -- the record's reader has those series, and rows of zeros for the rest
 unfoldable pub readerRows : Lent → Rows
 readerRows l =
     record {
-      quantity = replicate 64 0;
-      factor = replicate 64 0;
+      fuel = fuelOf (replicate 64 0) (replicate 64 0);
       kinds = replicate 16 0;
-      counts = replicate 32 0;
-      places = replicate 1024 0;
-      drifts = replicate 1024 (pos 0);
-      flow = l .flow;
-      content = l .content;
-      temp = l .temp;
-      press = l .press;
-      status = l .status;
+      checks = checksOf (replicate 32 0) (replicate 1024 0) (replicate 1024 (pos 0));
+      series = l .series;
     }
 
 -- the reader's refusal, with document 01's number, device and place
@@ -80,11 +71,7 @@ resultsOf (ReadAnswer.Line k) rows l = l .results
 
 -- two that lend rows of the same lengths
 pub record AsLong (l k : Lent) : Type 0 where
-  pub flow : length (l .flow) ≡ length (k .flow)
-  pub content : length (l .content) ≡ length (k .content)
-  pub temp : length (l .temp) ≡ length (k .temp)
-  pub press : length (l .press) ≡ length (k .press)
-  pub status : length (l .status) ≡ length (k .status)
+  pub series : Series.AsLong (l .series) (k .series)
   pub outcome : length (l .results .outcome) ≡ length (k .results .outcome)
   pub flow-used : length (l .results .flow) ≡ length (k .results .flow)
   pub content-used : length (l .results .content) ≡ length (k .results .content)
@@ -104,15 +91,7 @@ pub record Reported (t : List ℕ) (before after : Lent) (old new : List ℕ) (n
   pub rows : Rows
   pub read : ReadRight t (readerRows before) rows answer
   pub written : Leads (outputOf answer rows before) old new n
-  pub lent : after
-      ≡ record {
-        flow = rows .flow;
-        content = rows .content;
-        temp = rows .temp;
-        press = rows .press;
-        status = rows .status;
-        results = resultsOf answer rows before;
-      }
+  pub lent : after ≡ record { series = rows .series; results = resultsOf answer rows before }
   pub settled : (h : Header) → answer ≡ ReadAnswer.Record h
       → Settled (callOf h rows (before .results)) (partsOf (h .devices * h .intervals) (before .results)) (partsAfter h rows (before .results))
       (answerTo h rows (before .results))

@@ -8,6 +8,7 @@ use lib.IntN.{ℤ, pos}
 use lib.ListN.{length, getD}
 use Rattle.rows.specs.Rows.{both, either}
 use Rattle.protocol.specs.Ranges.{checksMost, fuelsMost, driftRight}
+use Rattle.series.specs.Series.{Checks, Fuel}
 
 -- the lengths that D, N and the number of quantities ask for: of kinds, counts, places and drifts, of the five series, of the three result rows, of the factors
 abbrev pub wantedFor : ℕ → ℕ → ℕ → List ℕ
@@ -25,9 +26,9 @@ wrongCheck intervals places drifts g j =
 
 -- An instrument has 33 things to look at, "a wrong count before its entries": thing 0 is its count, "0 to 32"; thing j + 1 is
 -- check j, and "places past the count are ignored".
-unfoldable pub wrongThing : ℕ → List ℕ → List ℕ → List ℤ → ℕ → ℕ → Bool
-wrongThing intervals counts places drifts g zero = ltb checksMost (getD counts g 0)
-wrongThing intervals counts places drifts g (suc j) = both (ltb j (getD counts g 0)) (wrongCheck intervals places drifts g j)
+unfoldable pub wrongThing : ℕ → Checks → ℕ → ℕ → Bool
+wrongThing intervals c g zero = ltb checksMost (getD (c .counts) g 0)
+wrongThing intervals c g (suc j) = both (ltb j (getD (c .counts) g 0)) (wrongCheck intervals (c .places) (c .drifts) g j)
 
 -- the place of a thing where thing 0 is a count, whose place is `last`, and thing j + 1 is entry j
 abbrev pub thingPlace : ℕ → ℕ → ℕ
@@ -36,6 +37,6 @@ thingPlace last (suc j) = j
 
 -- Of the fuel lines thing 0 is their count, "over 64", and thing j + 1 is line j, "quantity in
 -- thousandths of a unit 0..1,000,000,000 and factor in grams CO2 per unit 0..4,000,000"
-unfoldable pub wrongFuel : List ℕ → List ℕ → ℕ → Bool
-wrongFuel quantity factor zero = ltb fuelsMost (length quantity)
-wrongFuel quantity factor (suc j) = either (ltb 1000000000 (getD quantity j 0)) (ltb 4000000 (getD factor j 0))
+unfoldable pub wrongFuel : Fuel → ℕ → Bool
+wrongFuel f zero = ltb fuelsMost (length (f .quantity))
+wrongFuel f (suc j) = either (ltb 1000000000 (getD (f .quantity) j 0)) (ltb 4000000 (getD (f .factor) j 0))

@@ -6,6 +6,7 @@ ghost use lib.Dec.{eqb, ltb};
 ghost use lib.ListN.{length, getD};
 ghost use Rattle.rows.specs.Rows.{FirstOf, either};
 ghost use Rattle.protocol.specs.Kinds.{isKind, misplaced};
+ghost use Rattle.series.specs.Series.{checksAt, fuelAt};
 ghost use Rattle.scans.specs.Wrong.{wantedFor, wrongCheck, wrongThing, wrongFuel, thingPlace};
 
 fn is_misplaced(mine: u32, kind: u32) -> bool
@@ -73,7 +74,7 @@ fn wrong_thing(
 ) -> bool
     requires { ⌜ (length (now counts) ≤ 32) × (length (now places) ≡ 32 * length (now counts)) × (length (now drifts) ≡ length (now places))
         × (g < length (now counts)) × (t < 33) ⌝ }
-    ensures { λ r. ⌜ r ≡ wrongThing intervals (now (counts .entry)) (now (places .entry)) (now (drifts .entry)) g t ⌝ }
+    ensures { λ r. ⌜ r ≡ wrongThing intervals (checksAt counts places drifts) g t ⌝ }
 {
     let count = counts[g];
     if t == 0 {
@@ -91,7 +92,7 @@ fn wrong_thing(
 pub fn first_wrong_check(intervals: u32, counts: &[u32], places: &[u32], drifts: &[i32]) -> usize
     requires { ⌜ (length (now counts) ≤ 32) × (length (now places) ≡ 32 * length (now counts)) × (length (now drifts) ≡ length (now places)) ⌝ }
     ensures { λ r. ⌜ FirstOf (length (now (counts .entry)) * 33)
-        (λ k. wrongThing intervals (now (counts .entry)) (now (places .entry)) (now (drifts .entry)) (k / 33) (k % 33)) r ⌝ }
+        (λ k. wrongThing intervals (checksAt counts places drifts) (k / 33) (k % 33)) r ⌝ }
 {
     let n = counts.len() * 33;
     let mut k = 0;
@@ -117,7 +118,7 @@ fn wrong_line(quantity: u32, factor: u32) -> bool
 // named where the count is wrong; 65 lines accepted.
 pub fn first_wrong_fuel(quantity: &[u32], factor: &[u32]) -> usize
     requires { ⌜ length (now factor) ≡ length (now quantity) ⌝ }
-    ensures { λ r. ⌜ FirstOf (1 + length (now (quantity .entry))) (wrongFuel (now (quantity .entry)) (now (factor .entry))) r ⌝ }
+    ensures { λ r. ⌜ FirstOf (1 + length (now (quantity .entry))) (wrongFuel (fuelAt quantity factor)) r ⌝ }
 {
     if 64 < quantity.len() {
         return 0;

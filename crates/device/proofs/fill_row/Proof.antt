@@ -1,4 +1,5 @@
-use Rattle.device.proofs.Laws.{low-weaken, Series, ready-held, sums-held, filled-held}
+use Rattle.device.proofs.Laws.{low-weaken, ready-held, sums-held, filled-held}
+use Rattle.series.specs.Series.{seriesNow, checksNow}
 use Rattle.drift.specs.Drift.{Ordered}
 use Rattle.protocol.specs.Ranges.{flowMost, contentMost}
 use mathlib.Core.Path.{_≡_, refl, sym, ap, _∙_, subst}
@@ -22,14 +23,8 @@ records : tie.Start → Records
 records s =
     record {
       kind = s .args .kind;
-      flow = s .args .flow .now;
-      content = s .args .content .now;
-      temp = s .args .temp .now;
-      press = s .args .press .now;
-      status = s .args .status .now;
-      counts = s .args .counts .now;
-      places = s .args .places .now;
-      drifts = s .args .drifts .now;
+      series = seriesNow (s .args .flow) (s .args .content) (s .args .temp) (s .args .press) (s .args .status);
+      checks = checksNow (s .args .counts) (s .args .places) (s .args .drifts);
     }
 
 -- src/lib.rt:80:23
@@ -97,9 +92,9 @@ part-fill-series-end-4 c = search needs
 fill-series-requires-2 : tie.Need-fill-series-requires-2
 unfolding instrumentOf records
 fill-series-requires-2 c κs = (
-  subst (Ordered (instrumentOf (records (c .before .before .before .before .before .before .before .before .before .before .before .before .before .before .before .before .before .before .before .before)) 1)) (sym ((c .before .before .before .before .before .before .before .before .before .before .before .before .before .before .before .before .before .before .before .before .pre .0) .contents)) ((c .before .before .before .before .before .before .before .before .before .before .before .before .before .before .before .before .before .before .before .before .pre .0) .ordered 1 (omega arith)),
-  c .before .before .before .before .before .before .before .before .before .before .before .before .before .before .before .before .before .before .before .before .pre .3 ∙ sym ((c .before .before .before .before .before .before .before .before .before .before .before .before .before .before .before .before .before .before .before .before .pre .0) .contents),
-  subst (λ (m : ℕ). m ≤ 35136) (sym ((c .before .before .before .before .before .before .before .before .before .before .before .before .before .before .before .before .before .before .before .before .pre .0) .contents)) ((c .before .before .before .before .before .before .before .before .before .before .before .before .before .before .before .before .before .before .before .before .pre .0) .few),
+  subst (Ordered (instrumentOf (records (c .before .before .before .before .before .before .before .before .before .before .before .before .before .before .before .before .before .before .before .before)) 1)) (sym ((c .before .before .before .before .before .before .before .before .before .before .before .before .before .before .before .before .before .before .before .before .pre .0) .long .content)) ((c .before .before .before .before .before .before .before .before .before .before .before .before .before .before .before .before .before .before .before .before .pre .0) .ordered 1 (omega arith)),
+  c .before .before .before .before .before .before .before .before .before .before .before .before .before .before .before .before .before .before .before .before .pre .3 ∙ sym ((c .before .before .before .before .before .before .before .before .before .before .before .before .before .before .before .before .before .before .before .before .pre .0) .long .content),
+  subst (λ (m : ℕ). m ≤ 35136) (sym ((c .before .before .before .before .before .before .before .before .before .before .before .before .before .before .before .before .before .before .before .before .pre .0) .long .content)) ((c .before .before .before .before .before .before .before .before .before .before .before .before .before .before .before .before .before .before .before .before .pre .0) .few),
   low-weaken _ contentMost flowMost (omega arith) (content-low (records (c .before .before .before .before .before .before .before .before .before .before .before .before .before .before .before .before .before .before .before .before)) (c .before .before .before .before .before .before .before .before .before .before .before .before .before .before .before .before .before .before .before .before .pre .0)),
 )
 

@@ -1,6 +1,7 @@
 use Prim.Native.Nat.{ℕ, _+_, _*_, _-_, _≤_}
 use mathlib.Core.Path.{_≡_, refl, sym, ap, _∙_}
 use native.Mathlib.Omega.{arith}
+use Rattle.series.specs.Series.{seriesOf, checksOf}
 use Rattle.devices.proofs.Loop.{Going, going-start, going-on, going-room, going-done, totals-none}
 use Rattle.devices.proofs.fill_rows.Statement.{statement}
 use Rattle.devices.proofs.fill_rows.Tie as tie
@@ -10,7 +11,7 @@ use Rattle.devices.proofs.add.Reads as add-reads
 use Rattle.devices.proofs.one.Reads as one-reads
 
 abbrev Inv-loop : tie.InvT-loop
-Inv-loop devices n kinds counts places drifts flow content temp press status outcome₀ flow-used₀ content-used₀ t₀ d₀ outcome flow-used content-used t d = Going (record { intervals = n; kinds = kinds; counts = counts; places = places; drifts = drifts; flow = flow; content = content; temp = temp; press = press; status = status }) devices outcome₀ flow-used₀ content-used₀ outcome flow-used content-used t d
+Inv-loop devices n kinds counts places drifts flow content temp press status outcome₀ flow-used₀ content-used₀ t₀ d₀ outcome flow-used content-used t d = Going (record { intervals = n; kinds = kinds; checks = checksOf counts places drifts; series = seriesOf flow content temp press status }) devices outcome₀ flow-used₀ content-used₀ outcome flow-used content-used t d
 
 abbrev μ-loop : tie.MeasureT-loop
 μ-loop devices n kinds counts places drifts flow content temp press status outcome₀ flow-used₀ content-used₀ t₀ d₀ outcome flow-used content-used t d = devices - d

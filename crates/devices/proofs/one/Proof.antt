@@ -1,6 +1,7 @@
 -- `devices::one` meets its contract: each part of a row is device d's, and fill_row's answer is its own.
 -- Assumes nothing.
 use native.Mathlib.Omega.{arith}
+use Rattle.series.specs.Series.{seriesNow, checksNow}
 use Rattle.devices.specs.Devices.{Lent, recordsOf}
 use Rattle.devices.proofs.Laws.{cells, part-end, Places, places-of, parts-right, rows-kept, rows-written}
 use Rattle.devices.proofs.one.Statement.{statement}
@@ -11,14 +12,8 @@ lent s =
     record {
       intervals = s .args .n;
       kinds = s .args .kinds .now;
-      counts = s .args .counts .now;
-      places = s .args .places .now;
-      drifts = s .args .drifts .now;
-      flow = s .args .flow .now;
-      content = s .args .content .now;
-      temp = s .args .temp .now;
-      press = s .args .press .now;
-      status = s .args .status .now;
+      checks = checksNow (s .args .counts) (s .args .places) (s .args .drifts);
+      series = seriesNow (s .args .flow) (s .args .content) (s .args .temp) (s .args .press) (s .args .status);
     }
 
 at : (s : tie.Start) → Places (lent s) (s .args .d)
@@ -58,7 +53,7 @@ part-fill-row-start : tie.Need-part-fill-row-start
 part-fill-row-start c = at (c .before .before .before .before .before .before .before .before .before .before .before) .row-up
 
 part-fill-row-end : tie.Need-part-fill-row-end
-part-fill-row-end c = let s = c .before .before .before .before .before .before .before .before .before .before .before in part-end (s .args .d) (s .args .devices) (s .args .n) _ (s .pre .1) (s .pre .0 .flow-long)
+part-fill-row-end c = let s = c .before .before .before .before .before .before .before .before .before .before .before in part-end (s .args .d) (s .args .devices) (s .args .n) _ (s .pre .1) (s .pre .0 .long .flow)
 
 mul-fill-row-3 : tie.Need-mul-fill-row-3
 mul-fill-row-3 c = at (c .before .before .before .before .before .before .before .before .before .before .before .before) .row-pairs
@@ -70,7 +65,7 @@ part-fill-row-start-2 : tie.Need-part-fill-row-start-2
 part-fill-row-start-2 c = at (c .before .before .before .before .before .before .before .before .before .before .before .before) .row-up
 
 part-fill-row-end-2 : tie.Need-part-fill-row-end-2
-part-fill-row-end-2 c = let s = c .before .before .before .before .before .before .before .before .before .before .before .before in part-end (s .args .d) (s .args .devices) (s .args .n) _ (s .pre .1) (s .pre .0 .content-long)
+part-fill-row-end-2 c = let s = c .before .before .before .before .before .before .before .before .before .before .before .before in part-end (s .args .d) (s .args .devices) (s .args .n) _ (s .pre .1) (s .pre .0 .long .content)
 
 mul-fill-row-4 : tie.Need-mul-fill-row-4
 mul-fill-row-4 c = at (c .before .before .before .before .before .before .before .before .before .before .before .before .before) .row-pairs
@@ -82,7 +77,7 @@ part-fill-row-start-3 : tie.Need-part-fill-row-start-3
 part-fill-row-start-3 c = at (c .before .before .before .before .before .before .before .before .before .before .before .before .before) .row-up
 
 part-fill-row-end-3 : tie.Need-part-fill-row-end-3
-part-fill-row-end-3 c = let s = c .before .before .before .before .before .before .before .before .before .before .before .before .before in part-end (s .args .d) (s .args .devices) (s .args .n) _ (s .pre .1) (s .pre .0 .temp-long)
+part-fill-row-end-3 c = let s = c .before .before .before .before .before .before .before .before .before .before .before .before .before in part-end (s .args .d) (s .args .devices) (s .args .n) _ (s .pre .1) (s .pre .0 .long .temp)
 
 mul-fill-row-5 : tie.Need-mul-fill-row-5
 mul-fill-row-5 c = at (c .before .before .before .before .before .before .before .before .before .before .before .before .before .before) .row-fours
@@ -94,7 +89,7 @@ part-fill-row-start-4 : tie.Need-part-fill-row-start-4
 part-fill-row-start-4 c = at (c .before .before .before .before .before .before .before .before .before .before .before .before .before .before) .row-up
 
 part-fill-row-end-4 : tie.Need-part-fill-row-end-4
-part-fill-row-end-4 c = let s = c .before .before .before .before .before .before .before .before .before .before .before .before .before .before in part-end (s .args .d) (s .args .devices) (s .args .n) _ (s .pre .1) (s .pre .0 .press-long)
+part-fill-row-end-4 c = let s = c .before .before .before .before .before .before .before .before .before .before .before .before .before .before in part-end (s .args .d) (s .args .devices) (s .args .n) _ (s .pre .1) (s .pre .0 .long .press)
 
 sub-fill-row-5 : tie.Need-sub-fill-row-5
 sub-fill-row-5 c = at (c .before .before .before .before .before .before .before .before .before .before .before .before .before .before .before) .row-up
@@ -103,7 +98,7 @@ part-fill-row-start-5 : tie.Need-part-fill-row-start-5
 part-fill-row-start-5 c = at (c .before .before .before .before .before .before .before .before .before .before .before .before .before .before .before) .row-up
 
 part-fill-row-end-5 : tie.Need-part-fill-row-end-5
-part-fill-row-end-5 c = let s = c .before .before .before .before .before .before .before .before .before .before .before .before .before .before .before in part-end (s .args .d) (s .args .devices) (s .args .n) _ (s .pre .1) (s .pre .0 .status-long)
+part-fill-row-end-5 c = let s = c .before .before .before .before .before .before .before .before .before .before .before .before .before .before .before in part-end (s .args .d) (s .args .devices) (s .args .n) _ (s .pre .1) (s .pre .0 .long .status)
 
 mul-fill-row-6 : tie.Need-mul-fill-row-6
 mul-fill-row-6 c = at (c .before .before .before .before .before .before .before .before .before .before .before .before .before .before .before .before) .counts-bytes

@@ -4,6 +4,7 @@ use native.Mathlib.Omega.{arith}
 use lib.Dec.{lit<}
 use lib.ListN.{getD}
 use mir.Facts.{toZ-ofZ}
+use Rattle.series.specs.Series.{seriesOf, seriesNow}
 use Rattle.outcomes.specs.Outcomes.{entryAt, Held}
 use Rattle.outcomes.proofs.Pass.{Going, reads-ready, reads-entry, measured-inside, measured-entry, going-none, going-few, going-more, going-kept, methane-room, slot-fits, going-all, length-rows, inside-series, inside-rows, index-fits, next-fits, turns-less, going-slot, zeros}
 use Rattle.outcomes.proofs.finish.Statement.{statement}
@@ -11,7 +12,7 @@ use Rattle.outcomes.proofs.finish.Tie as tie
 
 abbrev Inv-loop : tie.InvT-loop
 Inv-loop flow content temp press status outcomes₀ flow-used₀ content-used₀ n counts₀ methane₀ i₀ outcomes flow-used content-used counts methane i =
-    Going (record { flow = flow; content = content; temp = temp; press = press; status = status; flow-held = flow-used₀; content-held = content-used₀ }) n outcomes₀ outcomes flow-used content-used counts methane i
+    Going (record { series = seriesOf flow content temp press status; flow-held = flow-used₀; content-held = content-used₀ }) n outcomes₀ outcomes flow-used content-used counts methane i
 
 abbrev μ-loop : tie.MeasureT-loop
 μ-loop flow content temp press status outcomes₀ flow-used₀ content-used₀ n counts₀ methane₀ i₀ outcomes flow-used content-used counts methane i =
@@ -25,11 +26,7 @@ abbrev rows : tie.In-loop Inv-loop μ-loop → Held
 rows c =
     let a = c .before .before .before .before .before .before .before .before .before .args in
     record {
-      flow = a .flow .now;
-      content = a .content .now;
-      temp = a .temp .now;
-      press = a .press .now;
-      status = a .status .now;
+      series = seriesNow (a .flow) (a .content) (a .temp) (a .press) (a .status);
       flow-held = a .flow-used .now;
       content-held = a .content-used .now;
     }
@@ -58,28 +55,28 @@ mul-f : tie.Need-mul-f Inv-loop μ-loop
 mul-f c = index-fits (c .before .loop .inv) (c .loop-test .taken) .0
 
 shared-slice-read-f : tie.Need-shared-slice-read-f Inv-loop μ-loop
-shared-slice-read-f c = inside-series (c .before .before .loop .inv) (c .before .loop-test .taken) .0
+shared-slice-read-f c = inside-series (c .before .before .loop .inv) (c .before .loop-test .taken) .flow
 
 mul-c : tie.Need-mul-c Inv-loop μ-loop
 mul-c c = index-fits (c .before .before .loop .inv) (c .before .loop-test .taken) .0
 
 shared-slice-read-c : tie.Need-shared-slice-read-c Inv-loop μ-loop
-shared-slice-read-c c = inside-series (c .before .before .before .loop .inv) (c .before .before .loop-test .taken) .1
+shared-slice-read-c c = inside-series (c .before .before .before .loop .inv) (c .before .before .loop-test .taken) .content
 
 mul-t : tie.Need-mul-t Inv-loop μ-loop
 mul-t c = index-fits (c .before .before .before .loop .inv) (c .before .before .loop-test .taken) .0
 
 shared-slice-copy-out-t : tie.Need-shared-slice-copy-out-t Inv-loop μ-loop
-shared-slice-copy-out-t c = inside-series (c .before .before .before .loop .inv) (c .before .before .loop-test .taken) .2
+shared-slice-copy-out-t c = inside-series (c .before .before .before .loop .inv) (c .before .before .loop-test .taken) .temp
 
 mul-p : tie.Need-mul-p Inv-loop μ-loop
 mul-p c = index-fits (c .before .before .before .before .loop .inv) (c .before .before .before .loop-test .taken) .1
 
 shared-slice-read-p : tie.Need-shared-slice-read-p Inv-loop μ-loop
-shared-slice-read-p c = inside-series (c .before .before .before .before .before .loop .inv) (c .before .before .before .before .loop-test .taken) .3
+shared-slice-read-p c = inside-series (c .before .before .before .before .before .loop .inv) (c .before .before .before .before .loop-test .taken) .press
 
 shared-slice-read-code : tie.Need-shared-slice-read-code Inv-loop μ-loop
-shared-slice-read-code c = inside-series (c .before .before .before .before .before .before .loop .inv) (c .before .before .before .before .before .loop-test .taken) .4
+shared-slice-read-code c = inside-series (c .before .before .before .before .before .before .loop .inv) (c .before .before .before .before .before .loop-test .taken) .status
 
 mul-f-held : tie.Need-mul-f-held Inv-loop μ-loop
 mul-f-held c = index-fits (c .before .before .before .before .before .before .loop .inv) (c .before .before .before .before .before .loop-test .taken) .0

@@ -2,6 +2,7 @@ use Prim.Native.Nat.{ℕ, _+_, _*_, _-_, _≤_, _<_}
 use mathlib.Core.Path.{_≡_, refl, sym, ap, _∙_, subst}
 use native.Mathlib.Omega.{arith}
 use lib.ListN.{length, getD}
+use Rattle.series.specs.Series.{fuelOf, fuelNow}
 use Rattle.quantify.proofs.Burning.{Burning, line-most, sum-room, burning-more, burnt}
 use borrow.Author.Needs.{needs}
 use Rattle.quantify.proofs.fuel.Statement.{statement}
@@ -10,7 +11,7 @@ use Rattle.quantify.proofs.fuel.Reads as reads
 use Rattle.quantify.proofs.fuel.Lts as lts
 
 abbrev Inv-loop : tie.InvT-loop
-Inv-loop quantity factor sum₀ i₀ sum i = Burning quantity factor sum i
+Inv-loop quantity factor sum₀ i₀ sum i = Burning (fuelOf quantity factor) sum i
 
 abbrev μ-loop : tie.MeasureT-loop
 μ-loop quantity factor sum₀ i₀ sum i = length quantity - i
@@ -45,11 +46,11 @@ cast-sum-2 c = omega (arith, (c .before .before .before .loop .inv) .fuels .fact
 
 -- src/lib.rt:27:21
 mul-sum-3 : tie.Need-mul-sum-3 Inv-loop μ-loop
-mul-sum-3 c = omega (arith, line-most (c .before .before .before .before .args .quantity .now) (c .before .before .before .before .args .factor .now) ((c .before .before .before .loop .inv) .fuels) (c .before .before .before .loop .i) (c .before .before .loop-test .taken))
+mul-sum-3 c = omega (arith, line-most (fuelNow (c .before .before .before .before .args .quantity) (c .before .before .before .before .args .factor)) ((c .before .before .before .loop .inv) .fuels) (c .before .before .before .loop .i) (c .before .before .loop-test .taken))
 
 -- src/lib.rt:27:15
 add-sum : tie.Need-add-sum Inv-loop μ-loop
-add-sum c = omega (arith, line-most (c .before .before .before .before .args .quantity .now) (c .before .before .before .before .args .factor .now) ((c .before .before .before .loop .inv) .fuels) (c .before .before .before .loop .i) (c .before .before .loop-test .taken), sum-room _ _ _ _ (c .before .before .before .loop .inv))
+add-sum c = omega (arith, line-most (fuelNow (c .before .before .before .before .args .quantity) (c .before .before .before .before .args .factor)) ((c .before .before .before .loop .inv) .fuels) (c .before .before .before .loop .i) (c .before .before .loop-test .taken), sum-room _ _ _ (c .before .before .before .loop .inv))
 
 -- src/lib.rt:28:9
 add-i : tie.Need-add-i Inv-loop μ-loop
@@ -61,11 +62,11 @@ loop-less c = omega (arith, c .before .before .loop-test .taken)
 
 -- src/lib.rt:26:5
 loop-again : tie.Need-loop-again Inv-loop μ-loop
-loop-again c = burning-more _ _ _ _ (c .before .before .before .loop .inv) (c .before .before .loop-test .taken)
+loop-again c = burning-more _ _ _ (c .before .before .before .loop .inv) (c .before .before .loop-test .taken)
 
 -- src/lib.rt:19:1
 returns : tie.Need-returns Inv-loop μ-loop
-returns c = burnt _ _ _ _ (c .before .loop .inv) (c .loop-test .left)
+returns c = burnt _ _ _ (c .before .loop .inv) (c .loop-test .left)
 
 pub fuel-spec : {M : Type 1} → statement M
 fuel-spec =

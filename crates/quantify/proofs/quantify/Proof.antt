@@ -1,6 +1,7 @@
 use Rattle.quantify.proofs.Settling.{settled-made}
 use mathlib.Core.Path.{_≡_, refl, sym, ap, _∙_, subst}
 use lib.ListN.{length}
+use Rattle.series.specs.Series.{seriesNow, checksNow, fuelNow}
 use Rattle.checks.specs.Call.{Call}
 use Rattle.checks.specs.Steps.{judged}
 use Rattle.checks.specs.declared.Verdict.the-variants.{Clean}
@@ -8,7 +9,6 @@ use Rattle.checks.proofs.Laws.{accepted}
 use Rattle.devices.specs.Devices.{Rows}
 use Rattle.figures.specs.declared.Figures.{Figures}
 use Rattle.quantify.specs.declared.Answer.the-variants.{Accepted}
-use Rattle.quantify.specs.Sheet.{fuelIn}
 use Rattle.quantify.specs.Promise.{Settled}
 use Rattle.quantify.proofs.Sound.{sound}
 use Rattle.quantify.proofs.Settling.{settled-refused, settled-accepted, moderate-call, sheet-is}
@@ -29,16 +29,9 @@ call s =
       devices = s .args .devices;
       mine = s .args .mine;
       kinds = s .args .kinds .now;
-      counts = s .args .counts .now;
-      places = s .args .places .now;
-      drifts = s .args .drifts .now;
-      flow = s .args .flow .now;
-      content = s .args .content .now;
-      temp = s .args .temp .now;
-      press = s .args .press .now;
-      status = s .args .status .now;
-      quantity = s .args .quantity .now;
-      factor = s .args .factor .now;
+      checks = checksNow (s .args .counts) (s .args .places) (s .args .drifts);
+      series = seriesNow (s .args .flow) (s .args .content) (s .args .temp) (s .args .press) (s .args .status);
+      fuel = fuelNow (s .args .quantity) (s .args .factor);
       outcome-length = length (s .args .outcome .now);
       flow-row-length = length (s .args .flow-used .now);
       content-row-length = length (s .args .content-used .now);
@@ -71,7 +64,7 @@ fill-rows-requires c κs = let x = (accepted (call (c .before .before .before .b
 -- src/lib.rt:147:9
 fuel-requires : tie.Need-fuel-requires
 unfolding call rows
-fuel-requires c κs = let x = (accepted (call (c .before .before .before .before .before .before .before .before .before .before .before .before .before .before .before .before .before .before .before .before .before .before .before .before .before)) (sym (c .before .before .before .before .before .before .before .before .before .before .before .before .judge .ensures) ∙ c .before .before .before .before .before .before .before .before .before .before .enum-told .given .1)) in record { same-length = x .shape .factor-long; few = x .fuels-most; quantity-most = x .quantity-most; factor-most = x .factor-most }
+fuel-requires c κs = let x = (accepted (call (c .before .before .before .before .before .before .before .before .before .before .before .before .before .before .before .before .before .before .before .before .before .before .before .before .before)) (sym (c .before .before .before .before .before .before .before .before .before .before .before .before .judge .ensures) ∙ c .before .before .before .before .before .before .before .before .before .before .enum-told .given .1)) in x .burnable
 
 -- src/lib.rt:148:22
 sheet-requires : tie.Need-sheet-requires
@@ -92,7 +85,7 @@ same-length-3 c = search needs
 
 -- src/lib.rt:63:1
 returns-2 : tie.Need-returns-2
-unfolding call rows fuelIn
+unfolding call rows
 returns-2 c = let s = c .before .before .before .before .before .before .before .before .before .before .before .before .before .before .before .before .before .before .before .before .before .before .before .before .before .before .before in
     let w = c .before .before .before .before .before .before .before .before .fill-rows .ensures in
     settled-made (call s) (rows s) _ _ _ (c .before .before .before .before .before .before .before .before .fill-rows .result) (c .sheet .result) (sym (c .before .before .before .before .before .before .before .before .before .before .before .before .before .before .judge .ensures) ∙ c .before .before .before .before .before .before .before .before .before .before .before .before .enum-told .given .1) w

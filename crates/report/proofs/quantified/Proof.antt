@@ -51,7 +51,7 @@ mul-quantify c = record { fits = omega (arith, c .before .before .before .before
 
 -- src/lib.rt:99:9
 slice-aggregate-quantify-2 : tie.Need-slice-aggregate-quantify-2
-slice-aggregate-quantify-2 c = sym (length-take-le _ _ (c .before .before .before .before .before .before .before .before .before .before .before .before .before .before .before .before .before .before .before .before .pre .counts-room))
+slice-aggregate-quantify-2 c = sym (length-take-le _ _ (c .before .before .before .before .before .before .before .before .before .before .before .before .before .before .before .before .before .before .before .before .pre .checks .counts))
 
 -- src/lib.rt:100:19
 mul-quantify-2 : tie.Need-mul-quantify-2
@@ -59,7 +59,7 @@ mul-quantify-2 c = record { fits = omega (arith, c .before .before .before .befo
 
 -- src/lib.rt:100:9
 slice-aggregate-quantify-3 : tie.Need-slice-aggregate-quantify-3
-slice-aggregate-quantify-3 c = sym (length-take-le _ _ (c .before .before .before .before .before .before .before .before .before .before .before .before .before .before .before .before .before .before .before .before .before .pre .places-room))
+slice-aggregate-quantify-3 c = sym (length-take-le _ _ (c .before .before .before .before .before .before .before .before .before .before .before .before .before .before .before .before .before .before .before .before .before .pre .checks .places))
 
 -- src/lib.rt:101:19
 mul-quantify-3 : tie.Need-mul-quantify-3
@@ -67,35 +67,35 @@ mul-quantify-3 c = record { fits = omega (arith, c .before .before .before .befo
 
 -- src/lib.rt:101:9
 slice-aggregate-quantify-4 : tie.Need-slice-aggregate-quantify-4
-slice-aggregate-quantify-4 c = sym (length-take-le _ _ (c .before .before .before .before .before .before .before .before .before .before .before .before .before .before .before .before .before .before .before .before .before .before .pre .drifts-room))
+slice-aggregate-quantify-4 c = sym (length-take-le _ _ (c .before .before .before .before .before .before .before .before .before .before .before .before .before .before .before .before .before .before .before .before .before .before .pre .checks .drifts))
 
 -- src/lib.rt:102:9
 slice-aggregate-quantify-5 : tie.Need-slice-aggregate-quantify-5
-slice-aggregate-quantify-5 c = sym (length-take-le _ _ (c .before .before .before .before .before .before .before .before .before .before .before .before .before .before .before .before .before .before .before .before .before .before .before .pre .flow-room))
+slice-aggregate-quantify-5 c = sym (length-take-le _ _ (c .before .before .before .before .before .before .before .before .before .before .before .before .before .before .before .before .before .before .before .before .before .before .before .pre .series .flow))
 
 -- src/lib.rt:103:9
 slice-aggregate-quantify-6 : tie.Need-slice-aggregate-quantify-6
-slice-aggregate-quantify-6 c = sym (length-take-le _ _ (c .before .before .before .before .before .before .before .before .before .before .before .before .before .before .before .before .before .before .before .before .before .before .before .before .pre .content-room))
+slice-aggregate-quantify-6 c = sym (length-take-le _ _ (c .before .before .before .before .before .before .before .before .before .before .before .before .before .before .before .before .before .before .before .before .before .before .before .before .pre .series .content))
 
 -- src/lib.rt:104:9
 slice-aggregate-quantify-7 : tie.Need-slice-aggregate-quantify-7
-slice-aggregate-quantify-7 c = sym (length-take-le _ _ (c .before .before .before .before .before .before .before .before .before .before .before .before .before .before .before .before .before .before .before .before .before .before .before .before .before .pre .temp-room))
+slice-aggregate-quantify-7 c = sym (length-take-le _ _ (c .before .before .before .before .before .before .before .before .before .before .before .before .before .before .before .before .before .before .before .before .before .before .before .before .before .pre .series .temp))
 
 -- src/lib.rt:105:9
 slice-aggregate-quantify-8 : tie.Need-slice-aggregate-quantify-8
-slice-aggregate-quantify-8 c = sym (length-take-le _ _ (c .before .before .before .before .before .before .before .before .before .before .before .before .before .before .before .before .before .before .before .before .before .before .before .before .before .before .pre .press-room))
+slice-aggregate-quantify-8 c = sym (length-take-le _ _ (c .before .before .before .before .before .before .before .before .before .before .before .before .before .before .before .before .before .before .before .before .before .before .before .before .before .before .pre .series .press))
 
 -- src/lib.rt:106:9
 slice-aggregate-quantify-9 : tie.Need-slice-aggregate-quantify-9
-slice-aggregate-quantify-9 c = sym (length-take-le _ _ (c .before .before .before .before .before .before .before .before .before .before .before .before .before .before .before .before .before .before .before .before .before .before .before .before .before .before .before .pre .status-room))
+slice-aggregate-quantify-9 c = sym (length-take-le _ _ (c .before .before .before .before .before .before .before .before .before .before .before .before .before .before .before .before .before .before .before .before .before .before .before .before .before .before .before .pre .series .status))
 
 -- src/lib.rt:107:9
 slice-aggregate-quantify-10 : tie.Need-slice-aggregate-quantify-10
-slice-aggregate-quantify-10 c = sym (length-take-le _ _ (c .before .before .before .before .before .before .before .before .before .before .before .before .before .before .before .before .before .before .before .before .before .before .before .before .before .before .before .before .pre .quantity-room))
+slice-aggregate-quantify-10 c = sym (length-take-le _ _ (c .before .before .before .before .before .before .before .before .before .before .before .before .before .before .before .before .before .before .before .before .before .before .before .before .before .before .before .before .pre .fuel .quantity))
 
 -- src/lib.rt:108:9
 slice-aggregate-quantify-11 : tie.Need-slice-aggregate-quantify-11
-slice-aggregate-quantify-11 c = sym (length-take-le _ _ (c .before .before .before .before .before .before .before .before .before .before .before .before .before .before .before .before .before .before .before .before .before .before .before .before .before .before .before .before .before .pre .factor-room))
+slice-aggregate-quantify-11 c = sym (length-take-le _ _ (c .before .before .before .before .before .before .before .before .before .before .before .before .before .before .before .before .before .before .before .before .before .before .before .before .before .before .before .before .before .pre .fuel .factor))
 
 -- src/lib.rt:109:9
 slice-relend-prefix-quantify : tie.Need-slice-relend-prefix-quantify
