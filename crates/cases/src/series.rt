@@ -13,7 +13,7 @@ pub const HALVES: usize = 70274;
 // Where the rows begin there: kinds and flow at 0, the others a row's length apart.
 pub const COUNTS: usize = 35137;
 
-pub const PLACES: usize = 70274;
+pub const POSITIONS: usize = 70274;
 
 pub const PRESS: usize = 105411;
 

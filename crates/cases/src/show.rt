@@ -1,7 +1,7 @@
 // What is printed of a case.
 use crate::series;
 use crate::tokens;
-use checks::Refusal;
+use drainage_judge::Refusal;
 use figures::Figures;
 use libc::STDOUT_FILENO;
 use sheet_text::WriteAnswer;
@@ -21,13 +21,17 @@ fn line(key: &[u8], v: u64) {
 }
 
 fn all_kept(outcome: &[u8], flow_used: &[u16], content_used: &[u16]) -> u64 {
-    if !series::kept_u8(outcome) {
+    if !columns::kept_u8(outcome) {
         return 0;
     }
-    if !series::kept_u16(flow_used) {
+    if !columns::kept_u16(flow_used) {
         return 0;
     }
-    if series::kept_u16(content_used) { 1 } else { 0 }
+    if columns::kept_u16(content_used) {
+        1
+    } else {
+        0
+    }
 }
 
 // A refusal, and whether every entry of the three result rows is what it was.
@@ -145,7 +149,7 @@ pub fn sheet(f: Figures, t: &[u8], at: usize) -> Nearness {
     let WriteAnswer::Written(n) = a else {
         return near_to(0, 1, 0);
     };
-    let s = series::part_u8(&buf, 0, n);
+    let s = columns::part_u8(&buf, 0, n);
     text(s);
     let exact = tokens::signed(t, at, 1000000000000000000);
     near_to(
@@ -157,7 +161,7 @@ pub fn sheet(f: Figures, t: &[u8], at: usize) -> Nearness {
 
 // The token at `at`.
 fn token(t: &[u8], at: usize) {
-    text(series::part_u8(t, at, tokens::end(t, at) - at));
+    text(columns::part_u8(t, at, tokens::end(t, at) - at));
 }
 
 // The exact milligrams as the input has them, and the two halves of demand 3.

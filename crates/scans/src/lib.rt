@@ -6,7 +6,7 @@ ghost use lib.Dec.{eqb, ltb};
 ghost use lib.ListN.{length, getD};
 ghost use Rattle.rows.specs.Rows.{FirstOf, either};
 ghost use Rattle.protocol.specs.Kinds.{isKind, misplaced};
-ghost use Rattle.series.specs.Series.{checksAt, fuelAt};
+ghost use Rattle.columns.specs.Series.{checksAt, fuelAt};
 ghost use Rattle.scans.specs.Wrong.{wantedFor, wrongCheck, wrongThing, wrongFuel, thingPlace};
 
 fn is_misplaced(mine: u32, kind: u32) -> bool
@@ -47,11 +47,11 @@ pub fn first_misplaced(mine: u32, kinds: &[u32]) -> usize
     i
 }
 
-fn wrong_check(intervals: u32, places: &[u32], drifts: &[i32], g: usize, j: usize) -> bool
-    requires { ⌜ (32 * g + j < length (now places)) × (length (now drifts) ≡ length (now places)) × (g < 32) × (j < 32) ⌝ }
-    ensures { λ r. ⌜ r ≡ wrongCheck intervals (now (places .entry)) (now (drifts .entry)) g j ⌝ }
+fn wrong_check(intervals: u32, positions: &[u32], drifts: &[i32], g: usize, j: usize) -> bool
+    requires { ⌜ (32 * g + j < length (now positions)) × (length (now drifts) ≡ length (now positions)) × (g < 32) × (j < 32) ⌝ }
+    ensures { λ r. ⌜ r ≡ wrongCheck intervals (now (positions .entry)) (now (drifts .entry)) g j ⌝ }
 {
-    let place = places[32 * g + j];
+    let place = positions[32 * g + j];
     if intervals < place {
         return true;
     }
@@ -61,20 +61,20 @@ fn wrong_check(intervals: u32, places: &[u32], drifts: &[i32], g: usize, j: usiz
     if j == 0 {
         return false;
     }
-    place <= places[32 * g + (j - 1)]
+    place <= positions[32 * g + (j - 1)]
 }
 
 fn wrong_thing(
     intervals: u32,
     counts: &[u32],
-    places: &[u32],
+    positions: &[u32],
     drifts: &[i32],
     g: usize,
     t: usize,
 ) -> bool
-    requires { ⌜ (length (now counts) ≤ 32) × (length (now places) ≡ 32 * length (now counts)) × (length (now drifts) ≡ length (now places))
+    requires { ⌜ (length (now counts) ≤ 32) × (length (now positions) ≡ 32 * length (now counts)) × (length (now drifts) ≡ length (now positions))
         × (g < length (now counts)) × (t < 33) ⌝ }
-    ensures { λ r. ⌜ r ≡ wrongThing intervals (checksAt counts places drifts) g t ⌝ }
+    ensures { λ r. ⌜ r ≡ wrongThing intervals (checksAt counts positions drifts) g t ⌝ }
 {
     let count = counts[g];
     if t == 0 {
@@ -82,22 +82,22 @@ fn wrong_thing(
     }
     let j = t - 1;
     if j < count as usize {
-        return wrong_check(intervals, places, drifts, g, j);
+        return wrong_check(intervals, positions, drifts, g, j);
     }
     false
 }
 
 // The first thing that is wrong with the checks, 33 things to an instrument, or the number of things. Ruled out: a check
 // past the count; of two positions that do not increase, the earlier.
-pub fn first_wrong_check(intervals: u32, counts: &[u32], places: &[u32], drifts: &[i32]) -> usize
-    requires { ⌜ (length (now counts) ≤ 32) × (length (now places) ≡ 32 * length (now counts)) × (length (now drifts) ≡ length (now places)) ⌝ }
+pub fn first_wrong_check(intervals: u32, counts: &[u32], positions: &[u32], drifts: &[i32]) -> usize
+    requires { ⌜ (length (now counts) ≤ 32) × (length (now positions) ≡ 32 * length (now counts)) × (length (now drifts) ≡ length (now positions)) ⌝ }
     ensures { λ r. ⌜ FirstOf (length (now (counts .entry)) * 33)
-        (λ k. wrongThing intervals (checksAt counts places drifts) (k / 33) (k % 33)) r ⌝ }
+        (λ k. wrongThing intervals (checksAt counts positions drifts) (k / 33) (k % 33)) r ⌝ }
 {
     let n = counts.len() * 33;
     let mut k = 0;
     while k < n {
-        if wrong_thing(intervals, counts, places, drifts, k / 33, k % 33) {
+        if wrong_thing(intervals, counts, positions, drifts, k / 33, k % 33) {
             return k;
         }
         k += 1;

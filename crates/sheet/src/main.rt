@@ -2,7 +2,7 @@
 use libc::STDIN_FILENO;
 use libc::STDOUT_FILENO;
 
-// Longer than any record file that 2,976 entries can hold, so that its first bytes decide every longer input (`report-cut`, report/proofs/Settled.antt).
+// Longer than any record file that 2,976 entries can hold, so that its first bytes decide every longer input (`report-cut`, drainage_report/proofs/Settled.antt).
 const TEXT: usize = 217600;
 
 const ENTRIES: usize = 2976;
@@ -24,7 +24,7 @@ fn run(text: &mut [u8; TEXT]) {
     let mut flow_used = [0u16; ENTRIES];
     let mut content_used = [0u16; ENTRIES];
     let mut out = [0u8; 465];
-    let k = report::report(
+    let k = drainage_report::report(
         first(text, n),
         &mut flow,
         &mut content,

@@ -7,7 +7,7 @@ use Rattle.sheet.proofs.run.Reads as reads
 use Rattle.sheet.proofs.run.Lts as lts
 use Rattle.io.proofs.read_full.Reads as read-full-reads
 use Rattle.io.proofs.write_all.Reads as write-all-reads
-use Rattle.report.proofs.report.Reads as report-reads
+use Rattle.drainage_report.proofs.report.Reads as report-reads
 use Rattle.sheet.proofs.first.Reads as first-reads
 
 -- src/main.rt:17:9

@@ -1,0 +1,76 @@
+-- Any two results that an exported function's contract permits are equal: the number and every entry lent. Assumes nothing.
+use Prim.Native.Nat.{ℕ, _+_, _*_, _<_}
+use mathlib.Core.Path.{_≡_, sym, ap, _∙_}
+use mathlib.Core.List.{List, [], _∷_}
+use native.Mathlib.Omega.{arith}
+use Rattle.drainage_judge.specs.Call.{Call}
+use Rattle.drainage_devices.specs.Devices.{Rows}
+use Rattle.figures.specs.declared.Figures.{Figures}
+use Rattle.drainage.specs.Promise.{numberIn, deviceIn, placeIn}
+use Rattle.drainage.specs.declared.Answer.{Answer}
+use Rattle.drainage.proofs.Settling.{settled-unique}
+use Rattle.sheet_text.specs.Write as Write
+use Rattle.sheet_text.specs.Read as Read
+use Rattle.sheet_text.specs.declared.WriteAnswer.{WriteAnswer}
+use Rattle.sheet_text.specs.declared.ReadAnswer.{ReadAnswer}
+use Rattle.sheet_text.proofs.Settled.{read-settled, write-settled}
+use Rattle.drainage_record_form.specs.Rows as Record
+use Rattle.drainage_record.specs.Read as Reader
+use Rattle.drainage_record.specs.declared.ReadAnswer as RecordType
+use Rattle.drainage_record.proofs.Settled as RecordSettled
+use Rattle.cmm.specs.Exported.{Held, heldAfter, heldOf, sizeOf, headAfter, Quantified, SheetWritten, SheetRead, RecordRead}
+
+-- two things told of two answers that are one
+told-once : {A B : Type 0} (f : A → B) {a b : A} {x y : B} → a ≡ b → x ≡ f a → y ≡ f b → x ≡ y
+told-once f e p q = p ∙ ap f e ∙ sym q
+
+pub record Same (one two : Rows) (held other : Held) (at at′ : List ℕ) (m n : ℕ) : Type 0 where
+  pub rows : one ≡ two
+  pub figures : held ≡ other
+  pub place : at ≡ at′
+  pub number : m ≡ n
+
+pub quantified-settled : (c : Call) (before one two : Rows) (old held other : Held) (at at′ : List ℕ) (m n : ℕ)
+    → Quantified c before one old held at m → Quantified c before two old other at′ n → Same one two held other at at′ m n
+quantified-settled c before one two old held other at at′ m n x y =
+    let e = settled-unique c before one two (x .answer) (y .answer) (x .settled) (y .settled) in
+    record {
+      rows = e .1;
+      figures = told-once (λ (a : Answer). heldAfter a old) (e .0) (x .figures) (y .figures);
+      place = told-once (λ (a : Answer). deviceIn a ∷ placeIn a ∷ []) (e .0) (x .place) (y .place);
+      number = told-once numberIn (e .0) (x .told) (y .told);
+    }
+
+pub written-settled : (f : Figures) (old new other size size′ : List ℕ) (m n : ℕ)
+    → SheetWritten f old new size m → SheetWritten f old other size′ n → (new ≡ other) × (size ≡ size′) × (m ≡ n)
+written-settled f old new other size size′ m n x y =
+    let e = write-settled f old new other (x .answer) (y .answer) (x .right) (y .right) in (
+      e .1,
+      told-once (λ (a : WriteAnswer). sizeOf a ∷ []) (e .0) (x .length) (y .length),
+      told-once Write.numberOf (e .0) (x .told) (y .told),
+    )
+
+pub sheet-read-settled : (t : List ℕ) (old held other : Held) (at at′ : List ℕ) (m n : ℕ)
+    → SheetRead t old held at m → SheetRead t old other at′ n → (held ≡ other) × (at ≡ at′) × (m ≡ n)
+sheet-read-settled t old held other at at′ m n x y =
+    let e = read-settled t (x .answer) (y .answer) (x .right) (y .right) in (
+      told-once (λ (a : ReadAnswer). heldOf a old) e (x .figures) (y .figures),
+      told-once (λ (a : ReadAnswer). Read.placeOf a ∷ []) e (x .place) (y .place),
+      told-once Read.numberOf e (x .told) (y .told),
+    )
+
+pub record-read-settled : (t : List ℕ) (before one two : Record.Rows) (old new other line line′ : List ℕ) (m n : ℕ)
+    → RecordRead t before one old new line m → RecordRead t before two old other line′ n
+    → (one ≡ two) × (new ≡ other) × (line ≡ line′) × (m ≡ n)
+record-read-settled t before one two old new other line line′ m n x y =
+    let e = RecordSettled.read-once t before one two (x .answer) (y .answer) (x .right) (y .right) in (
+      e .1,
+      told-once (λ (a : RecordType.ReadAnswer). headAfter a old) (e .0) (x .head) (y .head),
+      told-once (λ (a : RecordType.ReadAnswer). Reader.placeOf a ∷ []) (e .0) (x .place) (y .place),
+      told-once Reader.numberOf (e .0) (x .told) (y .told),
+    )
+
+-- The year's program (host/year.c) lends rows of 35,136 × 16 entries and reads at most 34,328,709 bytes: by `report-cut` what is
+-- right of those is right of the whole input.
+year-enough : 61 * (35136 * 16) + 35972 < 34328709
+year-enough = omega arith

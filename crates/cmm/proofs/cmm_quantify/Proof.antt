@@ -1,0 +1,88 @@
+-- `library::cmm_quantify` meets its contract: the call's own promise, and what the answer's case leaves in the arrays. Assumes nothing.
+use mathlib.Core.List.{[], _∷_}
+use mathlib.Core.Path.{sym, ap}
+use borrow.Author.Needs.{needs}
+use Rattle.drainage.specs.Promise.{numberIn}
+use Rattle.cmm.proofs.Answers.{accepted-held, refused-held}
+use Rattle.cmm.proofs.cmm_quantify.Statement.{statement}
+use Rattle.cmm.proofs.cmm_quantify.Tie as tie
+
+quantify-requires : tie.Need-quantify-requires
+quantify-requires c κs = search needs
+
+device-requires : tie.Need-device-requires
+device-requires c κs = search needs
+
+place-requires : tie.Need-place-requires
+place-requires c κs = search needs
+
+enum-known-a : tie.Need-enum-known-a
+enum-known-a c = search needs
+
+enum-told : tie.Need-enum-told
+enum-told c = search needs
+
+number-requires : tie.Need-number-requires
+number-requires c κs = search needs
+
+same-length : tie.Need-same-length
+same-length c = c .before .before .before .before .before .before .before .before .before .before .before .outcome .given
+
+same-length-2 : tie.Need-same-length-2
+same-length-2 c = c .before .before .before .before .before .before .before .before .before .flow-used .given
+
+same-length-3 : tie.Need-same-length-3
+same-length-3 c = c .before .before .before .before .before .before .before .content-used .given
+
+returns : tie.Need-returns
+returns c =
+    record {
+      answer = c .before .before .before .before .before .before .before .before .before .before .before .before .quantify .result;
+      settled = c .before .before .before .before .before .before .before .before .before .before .before .before .quantify .ensures;
+      told = c .number .ensures;
+      place = λ i. c .before .before .before .before .before .device .ensures i ∷ c .before .before .before .before .place .ensures i ∷ [];
+      figures = refused-held (c .before .before .before .before .before .before .before .before .before .before .before .before .quantify .result) _ (c .before .before .match .keys2);
+    }
+
+give-requires : tie.Need-give-requires
+give-requires c κs = search needs
+
+same-length-4 : tie.Need-same-length-4
+same-length-4 c = c .before .before .before .before .before .before .before .before .before .before .before .before .before .before .outcome .given
+
+same-length-5 : tie.Need-same-length-5
+same-length-5 c = c .before .before .before .before .before .before .before .before .before .before .before .before .flow-used .given
+
+same-length-6 : tie.Need-same-length-6
+same-length-6 c = c .before .before .before .before .before .before .before .before .before .before .content-used .given
+
+returns-2 : tie.Need-returns-2
+returns-2 c =
+    let is = c .before .before .before .before .a .given .1 in
+    record {
+      answer = c .before .before .before .before .before .before .before .before .before .before .before .before .before .before .before .quantify .result;
+      settled = c .before .before .before .before .before .before .before .before .before .before .before .before .before .before .before .quantify .ensures;
+      told = sym (ap numberIn is);
+      place = λ i. c .before .before .before .before .before .before .before .before .device .ensures i ∷ c .before .before .before .before .before .before .before .place .ensures i ∷ [];
+      figures = accepted-held (c .before .before .before .before .before .before .before .before .before .before .before .before .before .before .before .quantify .result) _ _ _ is (c .give .ensures);
+    }
+
+pub cmm-quantify-spec : {M : Type 1} → statement M
+cmm-quantify-spec =
+    tie.close
+    (tie.spec
+    quantify-requires
+    device-requires
+    place-requires
+    enum-known-a
+    enum-told
+    number-requires
+    same-length
+    same-length-2
+    same-length-3
+    returns
+    give-requires
+    same-length-4
+    same-length-5
+    same-length-6
+    returns-2)

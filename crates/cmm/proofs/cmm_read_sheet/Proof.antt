@@ -1,0 +1,61 @@
+-- `library::cmm_read_sheet` meets its contract: the call's own promise, and what the answer's case leaves in the arrays. Assumes nothing.
+use Prim.Native.Nat.{ℕ}
+use mathlib.Core.List.{[], _∷_}
+use mathlib.Core.Path.{sym, ap}
+use borrow.Author.Needs.{needs}
+use Rattle.sheet_text.specs.Read as Read
+use Rattle.cmm.proofs.Answers.{sheet-held, no-sheet-held}
+use Rattle.cmm.proofs.cmm_read_sheet.Statement.{statement}
+use Rattle.cmm.proofs.cmm_read_sheet.Tie as tie
+
+read-requires : tie.Need-read-requires
+read-requires c κs = search needs
+
+place-requires : tie.Need-place-requires
+place-requires c κs = search needs
+
+enum-known-a : tie.Need-enum-known-a
+enum-known-a c = search needs
+
+enum-told : tie.Need-enum-told
+enum-told c = search needs
+
+number-requires : tie.Need-number-requires
+number-requires c κs = search needs
+
+returns : tie.Need-returns
+returns c =
+    record {
+      answer = c .before .before .before .before .before .read .result;
+      right = c .before .before .before .before .before .read .ensures;
+      told = c .number .ensures;
+      place = ap (λ (n : ℕ). n ∷ []) (c .before .before .before .before .place .ensures);
+      figures = no-sheet-held (c .before .before .before .before .before .read .result) _ (c .before .before .match .keys2);
+    }
+
+give-requires : tie.Need-give-requires
+give-requires c κs = search needs
+
+returns-2 : tie.Need-returns-2
+returns-2 c =
+    let is = c .before .before .before .before .a .given .1 in
+    record {
+      answer = c .before .before .before .before .before .before .before .before .read .result;
+      right = c .before .before .before .before .before .before .before .before .read .ensures;
+      told = sym (ap Read.numberOf is);
+      place = ap (λ (n : ℕ). n ∷ []) (c .before .before .before .before .before .before .before .place .ensures);
+      figures = sheet-held (c .before .before .before .before .before .before .before .before .read .result) _ _ _ is (c .give .ensures);
+    }
+
+pub cmm-read-sheet-spec : {M : Type 1} → statement M
+cmm-read-sheet-spec =
+    tie.close
+    (tie.spec
+    read-requires
+    place-requires
+    enum-known-a
+    enum-told
+    number-requires
+    returns
+    give-requires
+    returns-2)

@@ -1,0 +1,37 @@
+-- `library::cmm_write_sheet` meets its contract: the call's own promise over the figures taken from the arrays. Assumes nothing.
+use Prim.Native.Nat.{ℕ}
+use mathlib.Core.List.{[], _∷_}
+use mathlib.Core.Path.{ap}
+use borrow.Author.Needs.{needs}
+use Rattle.cmm.proofs.Answers.{same-written}
+use Rattle.cmm.proofs.cmm_write_sheet.Statement.{statement}
+use Rattle.cmm.proofs.cmm_write_sheet.Tie as tie
+
+taken-requires : tie.Need-taken-requires
+taken-requires c κs = search needs
+
+write-requires : tie.Need-write-requires
+write-requires c κs = search needs
+
+length-of-requires : tie.Need-length-of-requires
+length-of-requires c κs = search needs
+
+number-requires : tie.Need-number-requires
+number-requires c κs = search needs
+
+same-length : tie.Need-same-length
+same-length c = search needs
+
+returns : tie.Need-returns
+returns c =
+    record {
+      answer = c .before .before .before .before .before .write .result;
+      right = same-written (c .before .before .before .before .before .before .before .taken .result) _ _ _ (c .before .before .before .before .before .write .result) (c .before .before .before .before .before .before .before .taken .ensures) (c .before .before .before .before .before .write .ensures);
+      told = c .number .ensures;
+      length = ap (λ (n : ℕ). n ∷ []) (c .before .before .length-of .ensures);
+    }
+
+pub cmm-write-sheet-spec : {M : Type 1} → statement M
+cmm-write-sheet-spec =
+    tie.close
+    (tie.spec taken-requires write-requires length-of-requires number-requires same-length returns)

@@ -1,0 +1,85 @@
+-- What the exported functions promise: the promises of the calls behind them, and what their arrays hold.
+-- Assumes nothing.
+use Prim.Native.Nat.{ℕ}
+use mathlib.Core.Path.{_≡_}
+use mathlib.Core.List.{List, [], _∷_}
+use lib.IntN.{ℤ}
+use Rattle.figures.specs.declared.Figures.{Figures}
+use Rattle.drainage_judge.specs.Call.{Call}
+use Rattle.drainage_devices.specs.Devices.{Rows}
+use Rattle.drainage.specs.Promise.{Settled, numberIn, deviceIn, placeIn}
+use Rattle.drainage.specs.declared.Answer.{Answer}
+use Rattle.drainage.specs.declared.Answer.the-variants as Answer
+use Rattle.sheet_text.specs.Write as Write
+use Rattle.sheet_text.specs.Write.{WriteRight}
+use Rattle.sheet_text.specs.Read as Read
+use Rattle.sheet_text.specs.Read.{ReadRight}
+use Rattle.sheet_text.specs.declared.WriteAnswer.{WriteAnswer}
+use Rattle.sheet_text.specs.declared.WriteAnswer.the-variants as WriteAnswer
+use Rattle.sheet_text.specs.declared.ReadAnswer.{ReadAnswer}
+use Rattle.sheet_text.specs.declared.ReadAnswer.the-variants as ReadAnswer
+use Rattle.drainage_record_form.specs.Rows as Record
+use Rattle.drainage_record.specs.Read as Reader
+use Rattle.drainage_record.specs.declared.Header.{Header}
+use Rattle.drainage_record.specs.declared.ReadAnswer as RecordType
+use Rattle.drainage_record.specs.declared.ReadAnswer.the-variants as RecordAnswer
+use Rattle.cmm.specs.Figures.{amountsOf, balancesOf}
+
+-- the host's two arrays of figures
+pub record Held : Type 0 where
+  pub amounts : List ℕ
+  pub balances : List ℤ
+
+abbrev pub given : Figures → Held
+given f = record { amounts = amountsOf f; balances = balancesOf f }
+
+abbrev pub heldAfter : Answer → Held → Held
+heldAfter (Answer.Accepted f) before = given f
+heldAfter (Answer.Refused r) before = before
+
+pub record Quantified (c : Call) (before after : Rows) (old new : Held) (at : List ℕ) (number : ℕ) : Type 0 where
+  pub answer : Answer
+  pub settled : Settled c before after answer
+  pub told : number ≡ numberIn answer
+  pub place : at ≡ deviceIn answer ∷ placeIn answer ∷ []
+  pub figures : new ≡ heldAfter answer old
+
+-- the length written, or needed
+abbrev pub sizeOf : WriteAnswer → ℕ
+sizeOf (WriteAnswer.Written n) = n
+sizeOf (WriteAnswer.TooShort n) = n
+
+pub record SheetWritten (f : Figures) (old new : List ℕ) (size : List ℕ) (number : ℕ) : Type 0 where
+  pub answer : WriteAnswer
+  pub right : WriteRight f old new answer
+  pub told : number ≡ Write.numberOf answer
+  pub length : size ≡ sizeOf answer ∷ []
+
+abbrev pub heldOf : ReadAnswer → Held → Held
+heldOf (ReadAnswer.Sheet f) before = given f
+heldOf (ReadAnswer.NoSheet k) before = before
+
+pub record SheetRead (t : List ℕ) (old new : Held) (offset : List ℕ) (number : ℕ) : Type 0 where
+  pub answer : ReadAnswer
+  pub right : ReadRight t answer
+  pub told : number ≡ Read.numberOf answer
+  pub place : offset ≡ Read.placeOf answer ∷ []
+  pub figures : new ≡ heldOf answer old
+
+-- the numbers at a record's head
+abbrev pub headed : Header → List ℕ
+headed h = h .intervals ∷ h .devices ∷ h .mine ∷ h .fuels ∷ []
+
+abbrev pub headAfter : RecordType.ReadAnswer → List ℕ → List ℕ
+headAfter (RecordAnswer.Record h) before = headed h
+headAfter RecordAnswer.Intervals before = before
+headAfter RecordAnswer.Devices before = before
+headAfter RecordAnswer.Room before = before
+headAfter (RecordAnswer.Line l) before = before
+
+pub record RecordRead (t : List ℕ) (before after : Record.Rows) (old new line : List ℕ) (number : ℕ) : Type 0 where
+  pub answer : RecordType.ReadAnswer
+  pub right : Reader.ReadRight t before after answer
+  pub told : number ≡ Reader.numberOf answer
+  pub place : line ≡ Reader.placeOf answer ∷ []
+  pub head : new ≡ headAfter answer old

@@ -1,0 +1,108 @@
+use Rattle.drainage.proofs.Settling.{settled-made}
+use mathlib.Core.Path.{_≡_, refl, sym, ap, _∙_, subst}
+use lib.ListN.{length}
+use Rattle.columns.specs.Series.{seriesNow, checksNow, fuelNow}
+use Rattle.drainage_judge.specs.Call.{Call}
+use Rattle.drainage_judge.specs.Steps.{judged}
+use Rattle.drainage_judge.specs.declared.Verdict.the-variants.{Clean}
+use Rattle.drainage_judge.proofs.Laws.{accepted}
+use Rattle.drainage_devices.specs.Devices.{Rows}
+use Rattle.figures.specs.declared.Figures.{Figures}
+use Rattle.drainage.specs.declared.Answer.the-variants.{Accepted}
+use Rattle.drainage.specs.Promise.{Settled}
+use Rattle.drainage.proofs.Sound.{sound}
+use Rattle.drainage.proofs.Settling.{settled-refused, settled-accepted, moderate-call, sheet-is}
+use borrow.Author.Needs.{needs}
+use Rattle.drainage.proofs.quantify.Statement.{statement}
+use Rattle.drainage.proofs.quantify.Tie as tie
+use Rattle.drainage.proofs.quantify.Reads as reads
+use Rattle.drainage.proofs.quantify.Lts as lts
+use Rattle.drainage_judge.proofs.judge.Reads as judge-reads
+use Rattle.drainage_devices.proofs.fill_rows.Reads as fill-rows-reads
+use Rattle.drainage.proofs.fuel.Reads as fuel-reads
+use Rattle.drainage.proofs.sheet.Reads as sheet-reads
+
+call : tie.Start → Call
+call s =
+    record {
+      intervals = s .args .intervals;
+      devices = s .args .devices;
+      mine = s .args .mine;
+      kinds = s .args .kinds .now;
+      checks = checksNow (s .args .counts) (s .args .positions) (s .args .drifts);
+      series = seriesNow (s .args .flow) (s .args .content) (s .args .temp) (s .args .press) (s .args .status);
+      fuel = fuelNow (s .args .quantity) (s .args .factor);
+      outcome-length = length (s .args .outcome .now);
+      flow-row-length = length (s .args .flow-used .now);
+      content-row-length = length (s .args .content-used .now);
+    }
+
+rows : tie.Start → Rows
+rows s = record { outcome = s .args .outcome .now; flow = s .args .flow-used .now; content = s .args .content-used .now }
+
+-- src/lib.rt:109:9
+judge-requires : tie.Need-judge-requires
+judge-requires c κs = search needs
+
+-- src/lib.rt:128:29
+enum-known-verdict : tie.Need-enum-known-verdict
+enum-known-verdict c = search needs
+
+-- src/lib.rt:129:9
+returns : tie.Need-returns
+unfolding call rows
+returns c = settled-refused (call (c .before .before .before .before .before .before .before .before .before .before .before .before .before .before .before .before)) (rows (c .before .before .before .before .before .before .before .before .before .before .before .before .before .before .before .before)) _ (sym (c .before .before .before .judge .ensures) ∙ c .before .verdict .given .1)
+
+enum-told : tie.Need-enum-told
+enum-told c = search needs
+
+-- src/lib.rt:131:9
+fill-rows-requires : tie.Need-fill-rows-requires
+unfolding call rows
+fill-rows-requires c κs = let x = (accepted (call (c .before .before .before .before .before .before .before .before .before .before .before .before .before .before .before .before .before .before)) (sym (c .before .before .before .before .before .judge .ensures) ∙ c .before .before .before .enum-told .given .1)) in (sound (call (c .before .before .before .before .before .before .before .before .before .before .before .before .before .before .before .before .before .before)) x, x .outcome-long, x .flow-row-long, x .content-row-long)
+
+-- src/lib.rt:147:9
+fuel-requires : tie.Need-fuel-requires
+unfolding call rows
+fuel-requires c κs = let x = (accepted (call (c .before .before .before .before .before .before .before .before .before .before .before .before .before .before .before .before .before .before .before .before .before .before .before .before .before)) (sym (c .before .before .before .before .before .before .before .before .before .before .before .before .judge .ensures) ∙ c .before .before .before .before .before .before .before .before .before .before .enum-told .given .1)) in x .burnable
+
+-- src/lib.rt:148:22
+sheet-requires : tie.Need-sheet-requires
+unfolding call rows
+sheet-requires c κs = moderate-call (call (c .before .before .before .before .before .before .before .before .before .before .before .before .before .before .before .before .before .before .before .before .before .before .before .before .before .before)) (accepted (call (c .before .before .before .before .before .before .before .before .before .before .before .before .before .before .before .before .before .before .before .before .before .before .before .before .before .before)) (sym (c .before .before .before .before .before .before .before .before .before .before .before .before .before .judge .ensures) ∙ c .before .before .before .before .before .before .before .before .before .before .before .enum-told .given .1)) _ _ (c .before .before .before .before .before .before .before .fill-rows .ensures .totals) (c .fuel .ensures .1)
+
+-- src/lib.rt:63:1
+same-length : tie.Need-same-length
+same-length c = search needs
+
+-- src/lib.rt:63:1
+same-length-2 : tie.Need-same-length-2
+same-length-2 c = search needs
+
+-- src/lib.rt:63:1
+same-length-3 : tie.Need-same-length-3
+same-length-3 c = search needs
+
+-- src/lib.rt:63:1
+returns-2 : tie.Need-returns-2
+unfolding call rows
+returns-2 c = let s = c .before .before .before .before .before .before .before .before .before .before .before .before .before .before .before .before .before .before .before .before .before .before .before .before .before .before .before in
+    let w = c .before .before .before .before .before .before .before .before .fill-rows .ensures in
+    settled-made (call s) (rows s) _ _ _ (c .before .before .before .before .before .before .before .before .fill-rows .result) (c .sheet .result) (sym (c .before .before .before .before .before .before .before .before .before .before .before .before .before .before .judge .ensures) ∙ c .before .before .before .before .before .before .before .before .before .before .before .before .enum-told .given .1) w
+    (sheet-is (call s) (c .before .before .before .before .before .before .before .before .fill-rows .result) (c .before .fuel .result) (c .sheet .result) (c .sheet .ensures) (w .totals) (c .before .fuel .ensures .0))
+
+pub quantify-spec : {M : Type 1} → statement M
+quantify-spec =
+    tie.close
+    (tie.spec
+    judge-requires
+    enum-known-verdict
+    returns
+    enum-told
+    fill-rows-requires
+    fuel-requires
+    sheet-requires
+    same-length
+    same-length-2
+    same-length-3
+    returns-2)

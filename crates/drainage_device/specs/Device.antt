@@ -1,0 +1,118 @@
+-- One device's row: from its records to its outcomes, its values used and its account. Nothing else can influence them: every
+-- definition here takes that device's records only.
+-- Assumes nothing.
+use Prim.Native.Nat.{ℕ, _+_, _-_, _*_, _≤_, _<_}
+use mathlib.Core.Path.{_≡_, refl}
+use mathlib.Core.Bool.{Bool, true, false}
+use mathlib.Core.List.{List, [], _∷_}
+use lib.IntN.{ℤ, pos}
+use lib.ListN.{length, getD}
+use Rattle.rows.specs.Rows.{pick, either, build, sumTo, countOf, cut}
+use Rattle.protocol.specs.Ranges.{intervalsMost, mark, tempMissing, pressMissing}
+use Rattle.columns.specs.Series.{Series, Checks, Long, ChecksLong, InRange}
+use Rattle.drainage_drift.specs.Drift.{Instrument, correctedAt, Ordered}
+use Rattle.drainage_runs.specs.Runs.{missingAt}
+use Rattle.drainage_gaps.specs.Gaps.{replacementAt}
+use Rattle.drainage_gaps.specs.declared.Replacement.{Replacement}
+use Rattle.drainage_gaps.specs.declared.Replacement.the-variants.{Value, TooLong, NotWhole}
+use Rattle.drainage_outcomes.specs.Outcomes.{outcomes, outcomeOf, counted, usedFor, litresFor}
+use Rattle.balance.specs.Balance.{destroyedOf, uncombustedOf}
+use Rattle.drainage_device.specs.declared.Account.{Account}
+
+-- one device's records: its rows of the five series, its two check counts, flow instrument first, its 64 places for
+-- positions and for drifts, and its kind
+pub record Records : Type 0 where
+  pub kind : ℕ
+  pub series : Series
+  pub checks : Checks
+
+abbrev pub intervalsOf : Records → ℕ
+intervalsOf r = length (r .series .flow)
+
+-- "each device has a flow instrument, then a CH4 instrument": 0 and 1
+unfoldable pub instrumentOf : Records → ℕ → Instrument
+instrumentOf r g =
+    record {
+      count = getD (r .checks .counts) g 0;
+      positions = cut (r .checks .positions) (32 * g) (32 * g + 32);
+      drifts = cut (r .checks .drifts) (32 * g) (32 * g + 32);
+    }
+
+-- "This precedes replacement": each series with its drift taken out
+unfoldable pub correctedFlow : Records → List ℕ
+correctedFlow r = build (intervalsOf r) (correctedAt (instrumentOf r 0) (r .series .flow))
+
+unfoldable pub correctedContent : Records → List ℕ
+correctedContent r = build (intervalsOf r) (correctedAt (instrumentOf r 1) (r .series .content))
+
+-- the outcome of an interval whose reading is missing: the replacement's, or "8 that gap has 673 or more; 9 its window isn't
+-- whole"
+abbrev pub replacedAs : ℕ → Replacement → ℕ
+replacedAs outcome (Value v) = outcome
+replacedAs outcome TooLong = 8
+replacedAs outcome NotWhole = 9
+
+-- "Outcome, the first that applies"
+unfoldable pub outcomeAt : Records → ℕ → ℕ
+outcomeAt r i =
+    outcomeOf (getD (r .series .status) i 0)
+    (either (tempMissing (getD (r .series .temp) i (pos 0))) (pressMissing (getD (r .series .press) i 0)))
+    (missingAt (r .series .flow) i)
+    (missingAt (r .series .content) i)
+    (replacedAs 1 (replacementAt (r .series .flow) (correctedFlow r) i))
+    (replacedAs 2 (replacementAt (r .series .content) (correctedContent r) i))
+
+abbrev pub valueOf : Replacement → ℕ
+valueOf (Value v) = v
+valueOf TooLong = 0
+valueOf NotWhole = 0
+
+-- a series' value for an interval: measured, with its drift taken out, or replaced
+unfoldable pub valueAt : List ℕ → List ℕ → ℕ → ℕ
+valueAt reading corrected i =
+    pick (missingAt reading i) (valueOf (replacementAt reading corrected i)) (getD corrected i mark)
+
+-- "The three output rows hold outcome, flow used and CH4 used; excluded intervals hold 0 for both values"
+unfoldable pub flowUsedAt : Records → ℕ → ℕ
+flowUsedAt r i = usedFor (outcomeAt r i) (valueAt (r .series .flow) (correctedFlow r) i)
+
+unfoldable pub contentUsedAt : Records → ℕ → ℕ
+contentUsedAt r i = usedFor (outcomeAt r i) (valueAt (r .series .content) (correctedContent r) i)
+
+-- the methane litres of an interval
+unfoldable pub litresAt : Records → ℕ → ℕ
+litresAt r i =
+    litresFor (outcomeAt r i) (flowUsedAt r i) (contentUsedAt r i) (getD (r .series .temp) i (pos 0)) (getD (r .series .press) i 0)
+
+-- "Q = their sum"
+unfoldable pub methaneOf : Records → ℕ
+methaneOf r = sumTo (intervalsOf r) (litresAt r)
+
+-- "the account of a device holds ten counts, one for each outcome", beside its litres
+unfoldable pub accountOf : Records → Account
+accountOf r =
+    record {
+      counts = build outcomes (countOf (intervalsOf r) (outcomeAt r));
+      methane = methaneOf r;
+      destroyed = destroyedOf (r .kind) (methaneOf r);
+      uncombusted = uncombustedOf (r .kind) (methaneOf r);
+    }
+
+-- every reading that is not missing is at most b
+pub record Low (reading : List ℕ) (b : ℕ) : Type 0 where
+  pub low : (i : ℕ) → missingAt reading i ≡ false → getD reading i mark ≤ b
+
+-- what refusals 1 to 8 leave: rows of one length, checks in order, every reading in range or missing
+pub record Right (r : Records) : Type 0 where
+  pub few : intervalsOf r ≤ intervalsMost
+  pub long : Long (r .series) (intervalsOf r)
+  pub kept : ChecksLong (r .checks) 1
+  pub ordered : (g : ℕ) → g < 2 → Ordered (instrumentOf r g) (intervalsOf r)
+  pub in-range : InRange (r .series) (intervalsOf r)
+
+-- the three rows and the account that the definitions build
+pub record Filled (r : Records) (outcomeRow flowRow contentRow : List ℕ) (a : Account) : Type 0 where
+  pub outcome-row : outcomeRow ≡ build (intervalsOf r) (outcomeAt r)
+  pub flow-row : flowRow ≡ build (intervalsOf r) (flowUsedAt r)
+  pub content-row : contentRow ≡ build (intervalsOf r) (contentUsedAt r)
+  pub account : a ≡ accountOf r

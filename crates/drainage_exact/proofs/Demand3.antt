@@ -1,0 +1,104 @@
+-- Demand 3: the reported tonnes are never above the exact reduction, and short of it by less than a tonne and the
+-- promised grams. First over an interval's loss, the factor of unburnt methane and the grams, then with document 01's.
+-- Assumes nothing.
+use Prim.Native.Nat.{ℕ, _+_, _*_, _/_, _≤_, _<_}
+use mathlib.Core.Path.{_≡_, refl, ap₂, _∙_, subst}
+use native.Mathlib.Nat.{mul-pos, mul-comm, one-mul}
+use native.Mathlib.Omega.{arith}
+use lib.IntN.{ℤ, pos}
+use Rattle.rows.specs.Rows.{sumTo}
+use Rattle.rows.proofs.Sums.{sumTo-add, sumTo-mul, sumTo-const}
+use Rattle.protocol.specs.Numbers.{protocol, methaneMg}
+use Rattle.protocol.specs.Ranges.{kelvinOf, contentMost}
+use Rattle.volume.specs.Volume.{litresOf, methaneOf, methaneLitres}
+use Rattle.balance.specs.Balance.{destroyedOf, uncombustedOf, baselineMg, carbonDioxideMg, uncombustedMg, fuelMg, baselineAll, carbonDioxideAll, uncombustedAll, reductionOf, reductionAll, tonnesOf}
+use Rattle.balance.proofs.Integers.{is-sub}
+use Rattle.balance.proofs.Laws.{reduction-ext}
+use Rattle.drainage_exact.specs.Fraction.{Fraction, over, whole, _-ᶠ_, _*ᶠ_, sumᶠ}
+use Rattle.drainage_exact.specs.Exact.{Used, Sound, Fair, exactLitres, exactMethane, exactQ, exactDeviceMg, exactReduction, reportedQ, reportedTonnes, countedOf, countedAll, intervalMg, deviceMg, promised}
+use Rattle.drainage_exact.proofs.Near.{Near, near-all, near-minus, near-fair}
+use Rattle.drainage_exact.proofs.Close.{Close, close-row, close-interval}
+use Rattle.drainage_exact.proofs.Device.{Covers, device-near}
+
+-- ---- over loss, factor and grams
+
+grams : (devices interval device : ℕ) (i : ℕ → ℕ)
+    → sumTo devices (λ d. interval * i d + device) ≡ interval * sumTo devices i + device * devices
+grams devices interval device i =
+    sumTo-add devices (λ d. interval * i d) (λ d. device)
+    ∙ ap₂ _+_ (sumTo-mul devices interval i) (sumTo-const devices device ∙ mul-comm devices device)
+
+module _ {u w interval device : ℕ} (v : Covers u w interval device) (devices : ℕ) (kind : ℕ → ℕ) (x : ℕ → Fraction) (q i : ℕ → ℕ) (fuel : ℕ)
+    (close : (d : ℕ) → d < devices → Close u (x d) (q d) (i d)) where
+  near : Near
+      (sumᶠ devices (λ d. exactDeviceMg w (kind d) (x d)) -ᶠ whole (pos fuel))
+      (sumTo devices (λ d. w * q d))
+      (sumTo devices (λ d. carbonDioxideMg (destroyedOf (kind d) (q d))) + sumTo devices (λ d. w * uncombustedOf (kind d) (q d)) + fuel)
+      (interval * sumTo devices i + device * devices)
+  near =
+      subst (λ (e : ℕ). Near whole-of (sumTo devices (λ d. w * q d)) debit e) (grams devices interval device i)
+      (subst (λ (b : ℕ). Near whole-of (sumTo devices (λ d. w * q d)) (b + fuel) (sumTo devices (λ d. interval * i d + device)))
+      (sumTo-add devices (λ d. carbonDioxideMg (destroyedOf (kind d) (q d))) (λ d. w * uncombustedOf (kind d) (q d)))
+      (near-minus fuel
+      (near-all devices (λ d. exactDeviceMg w (kind d) (x d)) (λ d. w * q d)
+      (λ d. carbonDioxideMg (destroyedOf (kind d) (q d)) + w * uncombustedOf (kind d) (q d)) (λ d. interval * i d + device)
+      (λ d h. device-near v (kind d) (close d h)))))
+    where
+      whole-of : Fraction
+      whole-of = sumᶠ devices (λ d. exactDeviceMg w (kind d) (x d)) -ᶠ whole (pos fuel)
+
+      debit : ℕ
+      debit = sumTo devices (λ d. carbonDioxideMg (destroyedOf (kind d) (q d))) + sumTo devices (λ d. w * uncombustedOf (kind d) (q d)) + fuel
+
+  pub fair : Fair
+      (sumᶠ devices (λ d. exactDeviceMg w (kind d) (x d)) -ᶠ whole (pos fuel))
+      (tonnesOf (reductionOf
+      (sumTo devices (λ d. w * q d))
+      (sumTo devices (λ d. carbonDioxideMg (destroyedOf (kind d) (q d))) + sumTo devices (λ d. w * uncombustedOf (kind d) (q d)) + fuel)))
+      (interval * sumTo devices i + device * devices)
+  unfolding reductionOf
+  fair = near-fair _ near (is-sub _ _)
+
+-- ---- document 01
+
+-- at most 2 litres an interval, 14,007 mg a litre, 25 grams an interval and 13 a device
+covers : Covers 1 methaneMg intervalMg deviceMg
+covers =
+    record { unit = omega arith; saves = 48691; is-saves = refl; per-interval = omega arith; per-device = omega arith }
+
+interval-close : (flow content : ℕ) (temp : ℤ) (press : ℕ) → 0 < kelvinOf temp → content ≤ contentMost
+    → Close 1 (exactMethane flow content temp press) (methaneLitres flow content temp press) 1
+unfolding exactMethane exactLitres methaneLitres methaneOf litresOf
+interval-close flow content temp press h l =
+    subst (λ (s : ℕ). Close 1 (over top bottom *ᶠ over content 10000) (s / bottom * content / 10000) 1) (one-mul top)
+    (close-interval 1 1 10000 top bottom content (omega arith) (omega arith) (mul-pos h (let z : 0 < 101325 = omega arith in z)) (omega arith))
+  where
+    top : ℕ
+    top = flow * 100 * protocol .kelvin * press
+
+    bottom : ℕ
+    bottom = kelvinOf temp * protocol .pascal
+
+q-close : (u : Used) → Sound u → (d : ℕ) → d < u .devices → Close 1 (exactQ u d) (reportedQ u d) (countedOf u d)
+unfolding exactQ reportedQ countedOf
+q-close u s d h =
+    close-row 1 (u .intervals) (u .counted d)
+    (λ k. exactMethane (u .flow d k) (u .content d k) (u .temp d k) (u .press d k))
+    (λ k. methaneLitres (u .flow d k) (u .content d k) (u .temp d k) (u .press d k))
+    (λ k l c. interval-close (u .flow d k) (u .content d k) (u .temp d k) (u .press d k) (s .warm d k h l c) (s .content-most d k h l c))
+
+-- demand 3 as document 01 states it
+pub demand-3 : (u : Used) → Sound u → Fair (exactReduction u) (reportedTonnes u) (promised u)
+unfolding exactReduction reportedTonnes promised countedAll reductionAll baselineAll carbonDioxideAll uncombustedAll baselineMg uncombustedMg
+demand-3 u s =
+    fair covers (u .devices) (u .kind) (exactQ u) (reportedQ u) (countedOf u) (fuelMg (u .fuels) (u .quantity) (u .factor)) (q-close u s)
+
+-- for a caller whose litres equal the reported ones device by device
+pub demand-3-of : (u : Used) → Sound u → (kind q : ℕ → ℕ) → ((d : ℕ) → d < u .devices → u .kind d ≡ kind d)
+    → ((d : ℕ) → d < u .devices → reportedQ u d ≡ q d)
+    → Fair (exactReduction u) (tonnesOf (reductionAll (u .devices) kind q (fuelMg (u .fuels) (u .quantity) (u .factor)))) (promised u)
+unfolding reportedTonnes
+demand-3-of u s kind q h l =
+    subst (λ (z : ℤ). Fair (exactReduction u) (tonnesOf z) (promised u))
+    (reduction-ext (u .devices) (u .kind) kind (reportedQ u) q (fuelMg (u .fuels) (u .quantity) (u .factor)) h l)
+    (demand-3 u s)

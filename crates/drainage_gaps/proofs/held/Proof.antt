@@ -1,0 +1,35 @@
+use Prim.Native.Nat.{ℕ, _+_, _-_, _*_, _≤_, _<_}
+use mathlib.Core.Path.{_≡_, refl, sym, ap, _∙_, subst}
+use mathlib.Core.Bool.{Bool, true, false}
+use native.Mathlib.Omega.{arith}
+use lib.Dec.{leb}
+use lib.ListN.{length, getD}
+use borrow.Author.Tests.{le-leb, lt-leb}
+use Rattle.rows.specs.Rows.{pick}
+use Rattle.drainage_gaps.specs.Gaps.{widthOf, ruleOf, heldFor, replacementOf, windowValues}
+use borrow.Author.Needs.{needs}
+use Rattle.drainage_gaps.proofs.held.Statement.{statement}
+use Rattle.drainage_gaps.proofs.held.Tie as tie
+use Rattle.drainage_gaps.proofs.held.Reads as reads
+use Rattle.drainage_gaps.proofs.held.Lts as lts
+use Rattle.drainage_gaps.proofs.exclusion.Reads as exclusion-reads
+
+-- src/lib.rt:69:28
+enum-known-answer : tie.Need-enum-known-answer
+enum-known-answer c = search needs
+
+-- src/lib.rt:70:9
+exclusion-requires : tie.Need-exclusion-requires
+exclusion-requires c κs = search needs
+
+-- src/lib.rt:70:9
+returns : tie.Need-returns
+returns c = c .exclusion .ensures
+
+-- src/lib.rt:66:1
+returns-2 : tie.Need-returns-2
+unfolding heldFor
+returns-2 c = sym (ap heldFor (c .before .answer .given .1))
+
+pub held-spec : {M : Type 1} → statement M
+held-spec = tie.close (tie.spec enum-known-answer exclusion-requires returns returns-2)

@@ -1,0 +1,32 @@
+use mathlib.Core.Path.{sym, _∙_}
+use native.Mathlib.Omega.{arith}
+use borrow.Author.Needs.{needs}
+use Rattle.drainage_gaps.proofs.Filling.{next-one, next-16}
+use Rattle.drainage_gaps.proofs.next.Statement.{statement}
+use Rattle.drainage_gaps.proofs.next.Tie as tie
+
+add-if1 : tie.Need-add-if1
+add-if1 c = search needs
+
+measured-requires : tie.Need-measured-requires
+measured-requires c κs = search needs
+
+add-result : tie.Need-add-result
+add-result c = search needs
+
+returns : tie.Need-returns
+returns c =
+    let g = c .before .before .before .before .args in
+    (omega arith, omega (arith, c .before .before .if1 .taken), next-16 (g .reading .now) (g .i) (sym (c .before .measured .ensures) ∙ c .if2 .taken))
+
+add-result-2 : tie.Need-add-result-2
+add-result-2 c = search needs
+
+returns-2 : tie.Need-returns-2
+returns-2 c =
+    let g = c .before .before .args in
+    (omega arith, omega (arith, c .before .before .pre .0), next-one (g .reading .now) (g .i) (c .before .before .pre .2))
+
+pub next-spec : {M : Type 1} → statement M
+next-spec =
+    tie.close (tie.spec add-if1 measured-requires add-result returns add-result-2 returns-2)

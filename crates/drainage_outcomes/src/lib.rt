@@ -1,0 +1,211 @@
+// The last pass over one device's row: outcomes, values used, counts and methane litres.
+ghost use Prim.Native.Nat.{ℕ, _≤_, _<_};
+ghost use mathlib.Core.Path.{_≡_};
+ghost use lib.Dec.{eqb};
+ghost use lib.ListN.{length};
+ghost use Rattle.rows.specs.Rows.{pick, either};
+ghost use Rattle.protocol.specs.Ranges.{tempMissing, pressMissing};
+ghost use Rattle.columns.specs.Series.{seriesNow, seriesAt};
+ghost use Rattle.drainage_outcomes.specs.Outcomes.{
+  outcomeOf,
+  allMeasured,
+  heldOutcome,
+  entryOf,
+  entryAt,
+  sumsOf,
+  Held,
+  Ready,
+  ReadyAt,
+  Finished,
+};
+use protocol::MISSING;
+
+pub struct Entry {
+    pub outcome: u8,
+    pub flow: u16,
+    pub content: u16,
+    pub litres: u64,
+}
+
+pub struct Sums {
+    pub counts: [u64; 10],
+    pub methane: u64,
+}
+
+// Ruled out: outcomes 5 and 6 exchanged; a missing reading counted under status 1.
+pub fn outcome(
+    status: u8,
+    lacking: bool,
+    no_flow: bool,
+    no_content: bool,
+    by_flow: u8,
+    by_content: u8,
+) -> u8
+    ensures { λ r. ⌜ r ≡ outcomeOf status lacking «no_flow» «no_content» «by_flow» «by_content» ⌝ }
+{
+    if status == 0 {
+        return 3;
+    }
+    if status == 3 {
+        return 4;
+    }
+    if lacking {
+        return 5;
+    }
+    if no_flow {
+        return replaced(status, no_content, by_flow);
+    }
+    if no_content {
+        return replaced(status, false, by_content);
+    }
+    0
+}
+
+// The outcome of an interval without flow or content.
+fn replaced(status: u8, both_missing: bool, by: u8) -> u8
+    ensures { λ r. ⌜ r ≡ pick «both_missing» 6 (pick (eqb status 1) 7 by) ⌝ }
+{
+    if both_missing {
+        return 6;
+    }
+    if status == 1 {
+        return 7;
+    }
+    by
+}
+
+// What a missing reading comes to.
+fn held_outcome(counted: u8, held: u16) -> u8
+    ensures { λ r. ⌜ r ≡ heldOutcome counted held ⌝ }
+{
+    if 65500 < held {
+        (held - 65500) as u8
+    } else {
+        counted
+    }
+}
+
+// Temperature or pressure missing.
+fn lacks(temp: i16, press: u32) -> bool
+    ensures { λ r. ⌜ r ≡ either (tempMissing temp) (pressMissing press) ⌝ }
+{
+    if protocol::temp_missing(temp) {
+        return true;
+    }
+    press == 0
+}
+
+// Whether an interval is counted as outcome 0: the device ran and nothing is missing. Ruled out: status 3 taken for running; a pressure of 0 taken
+// for a reading.
+fn all_measured(flow: u16, content: u16, temp: i16, press: u32, code: u8) -> bool
+    ensures { λ r. ⌜ r ≡ allMeasured flow content temp press code ⌝ }
+{
+    if code == 0 {
+        return false;
+    }
+    if code == 3 {
+        return false;
+    }
+    if lacks(temp, press) {
+        return false;
+    }
+    if flow == MISSING {
+        return false;
+    }
+    content != MISSING
+}
+
+// One interval. Ruled out: an excluded interval with a value; litres without the content.
+pub fn settle(
+    flow: u16,
+    content: u16,
+    temp: i16,
+    press: u32,
+    status: u8,
+    flow_held: u16,
+    content_held: u16,
+) -> Entry
+    requires { ⌜ Ready flow content temp press «flow_held» «content_held» ⌝ }
+    ensures { λ r. ⌜ r ≡ entryOf flow content temp press status «flow_held» «content_held» ⌝ }
+{
+    let by_flow = held_outcome(1, flow_held);
+    let by_content = held_outcome(2, content_held);
+    let o = outcome(
+        status,
+        lacks(temp, press),
+        flow == MISSING,
+        content == MISSING,
+        by_flow,
+        by_content,
+    );
+    if o < 3 {
+        let litres = volume::methane_litres(flow_held, content_held, temp, press);
+        Entry {
+            outcome: o,
+            flow: flow_held,
+            content: content_held,
+            litres,
+        }
+    } else {
+        Entry {
+            outcome: o,
+            flow: 0,
+            content: 0,
+            litres: 0,
+        }
+    }
+}
+
+// Every interval's outcome and values used, in place of what the rows held. Ruled out: a count that is not counted; a row
+// left as it was after its first entry.
+pub fn finish(
+    flow: &[u16],
+    content: &[u16],
+    temp: &[i16],
+    press: &[u32],
+    status: &[u8],
+    outcomes: &mut [u8],
+    flow_used: &mut [u16],
+    content_used: &mut [u16],
+) -> Sums
+    requires { ⌜ ReadyAt
+        (record { series = seriesNow flow content temp press status; flow-held = now «flow_used»; content-held = now «content_used» })
+        (length (now flow))
+        × (length (now outcomes) ≡ length (now flow)) ⌝ }
+    ensures { λ r. ⌜ Finished
+        (record { series = seriesAt flow content temp press status; flow-held = now («flow_used» .entry); content-held = now («content_used» .entry) })
+        (now (outcomes .exit)) (now («flow_used» .exit)) (now («content_used» .exit)) r ⌝ }
+{
+    let n = flow.len();
+    let mut counts = [0u64; 10];
+    let mut methane = 0;
+    let mut i = 0;
+    while i < n {
+        let f = flow[i];
+        let c = content[i];
+        let t = temp[i];
+        let p = press[i];
+        let code = status[i];
+        let f_held = flow_used[i];
+        let c_held = content_used[i];
+        if all_measured(f, c, t, p, code) {
+            // The commonest interval: its values stand in the rows already.
+            let litres = volume::methane_litres(f_held, c_held, t, p);
+            outcomes[i] = 0;
+            counts[0] += 1;
+            methane = methane + litres;
+            i += 1;
+        } else {
+            let e = settle(f, c, t, p, code, f_held, c_held);
+            let o = e.outcome;
+            outcomes[i] = o;
+            flow_used[i] = e.flow;
+            content_used[i] = e.content;
+            let k = o as usize;
+            counts[k] += 1;
+            methane = methane + e.litres;
+            i += 1;
+        }
+    }
+    Sums { counts, methane }
+}

@@ -1,0 +1,267 @@
+-- The whole job from what its parts promise: the reader's answer, quantification's, and what was written. Assumes nothing.
+use Prim.Native.Nat.{ℕ, _+_, _*_, _≤_, _<_}
+use mathlib.Core.Path.{_≡_, refl, sym, ap, _∙_, subst}
+use mathlib.Core.Bool.{Bool, true, false}
+use mathlib.Core.List.{List, [], _∷_}
+use mathlib.Core.Logic.{⊎-elim}
+use native.Mathlib.Omega.{arith}
+use lib.Dec.{leb}
+use lib.IntN.{ℤ, pos}
+use lib.ListN.{length, take, replicate, length-replicate}
+use denote.Enum.Declared.{tagOf}
+use types.Run.{OneOf}
+use borrow.Author.Tests.{leb-true, leb-false}
+use Rattle.rows.specs.Rows.{pick, both}
+use Rattle.protocol.specs.Ranges.{fromOne, intervalsMost, devicesMost}
+use Rattle.text.specs.Answer.{Leads}
+use Rattle.columns.specs.Series.{Room, seriesTake, checksTake, fuelTake}
+use Rattle.columns.proofs.Laws.{each-as-long}
+use Rattle.drainage_judge.specs.Call.{Call}
+use Rattle.drainage_judge.specs.Steps.{judged}
+use Rattle.drainage_judge.proofs.Laws.{within-most}
+use Rattle.drainage_devices.specs.Devices as Devices
+use Rattle.drainage.specs.Promise.{answerBy, Settled}
+use Rattle.drainage.proofs.Settling.{settled-call}
+use Rattle.drainage.specs.declared.Answer.{Answer}
+use Rattle.drainage_record_form.specs.Field as Field
+use Rattle.drainage_record_form.specs.Plan.{Line, lineIs}
+use Rattle.drainage_record_form.specs.Rows.{Rows, stored, roomOf, lesser}
+use Rattle.drainage_record_form.specs.File.{Record, Fine, file}
+use Rattle.drainage_record_form.proofs.Parts.{withHead}
+use Rattle.drainage_record_form.proofs.Covered.{SameLong, covered, stored-long}
+use Rattle.drainage_record.specs.Read as Read
+use Rattle.drainage_record.specs.Read.{ReadRight, Accepted, Outside, Wrong}
+use Rattle.drainage_record.specs.declared.Header.{Header}
+use Rattle.drainage_record.specs.declared.ReadAnswer.{ReadAnswer}
+use Rattle.drainage_record.specs.declared.ReadAnswer.the-variants as ReadAnswer
+use Rattle.drainage_record.proofs.ReadAnswer as ReadAnswerType
+use Rattle.drainage_report.specs.Quantified.{Ready, Quantified, partOf, partsOf, partsAfter, callOf, answerTo, resultsAfter}
+use Rattle.drainage_report.specs.Report.{refusalText, printed, Lent, readerRows, outputOf, resultsOf, AsLong, Whatever, Reported}
+use Rattle.drainage_report.proofs.Laws.{lesser-first}
+
+lesser-second : (a b : ℕ) → lesser a b ≤ b
+lesser-second a b = le-of (leb a b) refl
+  where
+    le-of : (t : Bool) → leb a b ≡ t → lesser a b ≤ b
+    le-of true h = omega (arith, ap (λ (x : Bool). pick x a b) h, leb-true a b h)
+    le-of false h = omega (arith, ap (λ (x : Bool). pick x a b) h)
+
+-- Each series has at least as many entries as the shortest.
+room-first : (a b c d e m : ℕ) → m ≤ lesser a (lesser b (lesser c (lesser d e))) → (m ≤ a) × (m ≤ b) × (m ≤ c) × (m ≤ d) × (m ≤ e)
+room-first a b c d e m h =
+    let x : m ≤ a = omega (arith, h, lesser-first a (lesser b (lesser c (lesser d e))) _ refl) in
+    let r : m ≤ lesser b (lesser c (lesser d e)) = omega (arith, h, lesser-second a (lesser b (lesser c (lesser d e)))) in
+    let y : m ≤ b = omega (arith, r, lesser-first b (lesser c (lesser d e)) _ refl) in
+    let s : m ≤ lesser c (lesser d e) = omega (arith, r, lesser-second b (lesser c (lesser d e))) in
+    let z : m ≤ c = omega (arith, s, lesser-first c (lesser d e) _ refl) in
+    let t : m ≤ lesser d e = omega (arith, s, lesser-second c (lesser d e)) in
+    (x, y, z, omega (arith, t, lesser-first d e _ refl), omega (arith, t, lesser-second d e))
+
+pub roomy : (r : Rows) (m : ℕ) → m ≤ roomOf r → Room (r .series) m
+roomy r m h =
+    let s = r .series in
+    let x = room-first (length (s .flow)) (length (s .content)) (length (s .temp)) (length (s .press)) (length (s .status)) m h in
+    record { flow = x .0; content = x .1; temp = x .2; press = x .3; status = x .4 }
+
+turned : (n d : ℕ) → d * n ≡ n * d
+turned n d = omega arith
+
+-- ---- what a record that was read is ready for
+
+few-in : (n d m f : ℕ) (rest : List Line)
+    → Record (lineIs Field.intervals (pos n) ∷ lineIs Field.devices (pos d) ∷ lineIs Field.mine (pos m) ∷ lineIs Field.fuels (pos f) ∷ rest) → f ≤ 64
+unfolding file
+few-in n d m f rest r = r .2 .2 .2 .1 .1
+
+module _ (t : List ℕ) (l : Lent) (after : Rows) (h : Header) (x : Accepted t (readerRows l) after h) where
+  fuels-few : h .fuels ≤ 64
+  fuels-few = few-in (h .intervals) (h .devices) (h .mine) (h .fuels) (x .rest) (subst Record (x .head) (x .follows))
+
+  room-of : Room (readerRows l .series) (h .intervals * h .devices)
+  room-of = roomy (readerRows l) (h .intervals * h .devices) (x .limits .entries)
+
+  pub ready : Ready h after
+  unfolding readerRows
+  ready =
+      let n : h .intervals ≤ 35136 = within-most (h .intervals) intervalsMost (x .limits .intervals) in
+      let d : h .devices ≤ 16 = within-most (h .devices) devicesMost (x .limits .devices) in
+      let s : SameLong (stored (x .lines) (readerRows l)) (readerRows l) = stored-long (x .lines) (readerRows l) in
+      let k : SameLong after (readerRows l) = subst (λ (r : Rows). SameLong r (readerRows l)) (sym (x .rows)) s in
+      let m : h .devices * h .intervals ≡ h .intervals * h .devices = turned (h .intervals) (h .devices) in
+      record {
+        few = n;
+        few-devices = d;
+        fuel =
+            record {
+              quantity = omega (arith, k .fuel .quantity, fuels-few, length-replicate {A = ℕ} 64 0);
+              factor = omega (arith, k .fuel .factor, fuels-few, length-replicate {A = ℕ} 64 0);
+            };
+        kinds-room = omega (arith, k .kinds, d, length-replicate {A = ℕ} 16 0);
+        checks =
+            record {
+              counts = omega (arith, k .checks .counts, d, length-replicate {A = ℕ} 32 0);
+              positions = omega (arith, k .checks .positions, d, length-replicate {A = ℕ} 1024 0);
+              drifts = omega (arith, k .checks .drifts, d, length-replicate 1024 (pos 0));
+            };
+        series = subst (Room (after .series)) (sym m) (each-as-long (λ e. h .intervals * h .devices ≤ e) (k .series) room-of);
+      }
+
+pub ready-for : (t : List ℕ) (l : Lent) (after : Rows) (h : Header) (a : ReadAnswer) → a ≡ ReadAnswer.Record h → ReadRight t (readerRows l) after a → Ready h after
+ready-for t l after h a e r = ready t l after h (subst (ReadRight t (readerRows l) after) e r)
+
+-- Reading leaves each row as long as it was.
+pub read-long : (t : List ℕ) (before after : Rows) (a : ReadAnswer) → ReadRight t before after a → SameLong after before
+read-long t before after (ReadAnswer.Record h) x = subst (λ (r : Rows). SameLong r before) (sym (x .rows)) (stored-long (x .lines) before)
+read-long t before after ReadAnswer.Intervals x = subst (λ (r : Rows). SameLong r before) (sym (x .same)) (stored-long [] before)
+read-long t before after ReadAnswer.Devices x = subst (λ (r : Rows). SameLong r before) (sym (x .same)) (stored-long [] before)
+read-long t before after ReadAnswer.Room x = subst (λ (r : Rows). SameLong r before) (sym (x .same)) (stored-long [] before)
+read-long t before after (ReadAnswer.Line k) x = subst (λ (r : Rows). SameLong r before) (sym (x .rows)) (stored-long (x .lines) before)
+
+-- ---- what stands in the lent rows does not matter
+
+pub same-room : (k l : Lent) → AsLong k l → roomOf (readerRows k) ≡ roomOf (readerRows l)
+unfolding readerRows
+same-room k l e = let s = e .series in λ i. lesser (s .flow i) (lesser (s .content i) (lesser (s .temp i) (lesser (s .press i) (s .status i))))
+
+module _ (t : List ℕ) (k l : Lent) (e : AsLong k l) where
+  outside-other : {after : Rows} {offends : ℕ → ℕ → Type 0} → Outside t (readerRows l) after offends → Outside t (readerRows k) (readerRows k) offends
+  outside-other x = record { intervals = x .intervals; devices = x .devices; headed = x .headed; offence = x .offence; same = refl }
+
+  accepted-other : {after : Rows} {h : Header} → (x : Accepted t (readerRows l) after h) → Accepted t (readerRows k) (stored (x .lines) (readerRows k)) h
+  accepted-other {h = h} x =
+      record {
+        lines = x .lines;
+        follows = x .follows;
+        is = x .is;
+        rest = x .rest;
+        head = x .head;
+        limits =
+            record {
+              intervals = x .limits .intervals;
+              devices = x .limits .devices;
+              entries = subst (λ (m : ℕ). h .intervals * h .devices ≤ m) (sym (same-room k l e)) (x .limits .entries);
+            };
+        rows = refl;
+      }
+
+  wrong-other : {after : Rows} {line : ℕ} → (x : Wrong t (readerRows l) after line) → Wrong t (readerRows k) (stored (x .lines) (readerRows k)) line
+  wrong-other x =
+      record {
+        lines = x .lines;
+        first = x .first;
+        number = x .number;
+        fine = subst (Fine t) (sym (same-room k l e)) (x .fine);
+        rows = refl;
+      }
+
+  -- The record covers each entry that quantification is lent.
+  module _ (after : Rows) (h : Header) (x : Accepted t (readerRows l) after h) where
+    alike : seriesTake (h .devices * h .intervals) (stored (x .lines) (readerRows k) .series) ≡ seriesTake (h .devices * h .intervals) (stored (x .lines) (readerRows l) .series)
+    alike =
+        subst (λ (m : ℕ). seriesTake m (stored (x .lines) (readerRows k) .series) ≡ seriesTake m (stored (x .lines) (readerRows l) .series))
+        (sym (turned (h .intervals) (h .devices)))
+        (subst (λ (ls : List Line). seriesTake (h .intervals * h .devices) (stored ls (readerRows k) .series) ≡ seriesTake (h .intervals * h .devices) (stored ls (readerRows l) .series)) (sym (x .head))
+        (covered (h .intervals) (h .devices) (lineIs Field.mine (pos (h .mine)) ∷ lineIs Field.fuels (pos (h .fuels)) ∷ x .rest) (subst Record (x .head) (x .follows)) (readerRows k) (readerRows l)
+        (room-of t k (stored (x .lines) (readerRows k)) h (accepted-other x)) (room-of t l after h x)))
+
+    call-both : callOf h (stored (x .lines) (readerRows k)) (k .results) ≡ callOf h (stored (x .lines) (readerRows l)) (l .results)
+    unfolding callOf readerRows
+    call-both =
+        λ i. record {
+          intervals = h .intervals;
+          devices = h .devices;
+          mine = h .mine;
+          kinds = take (h .devices) (stored (x .lines) (readerRows l) .kinds);
+          checks = checksTake (h .devices) (stored (x .lines) (readerRows l) .checks);
+          series = alike i;
+          fuel = fuelTake (h .fuels) (stored (x .lines) (readerRows l) .fuel);
+          outcome-length = lesser (e .outcome i) (h .devices * h .intervals);
+          flow-row-length = lesser (e .flow-used i) (h .devices * h .intervals);
+          content-row-length = lesser (e .content-used i) (h .devices * h .intervals);
+        }
+
+  call-other : (after : Rows) (h : Header) (x : Accepted t (readerRows l) after h)
+      → callOf h (stored (x .lines) (readerRows k)) (k .results) ≡ callOf h after (l .results)
+  call-other after h x = call-both after h x ∙ ap (λ (r : Rows). callOf h r (l .results)) (sym (x .rows))
+
+  answer-other : (after : Rows) (h : Header) (x : Accepted t (readerRows l) after h)
+      → answerTo h after (l .results) ≡ answerTo h (stored (x .lines) (readerRows k)) (k .results)
+  unfolding answerTo
+  answer-other after h x = ap (λ (c : Call). answerBy (judged c) c) (sym (call-other after h x))
+
+  pub whatever-else : (after : Rows) (a : ReadAnswer) → ReadRight t (readerRows l) after a → Whatever t k (outputOf a after l)
+  whatever-else after (ReadAnswer.Record h) x =
+      record {
+        answer = ReadAnswer.Record h;
+        rows = stored (x .lines) (readerRows k);
+        read = accepted-other x;
+        output = ap printed (answer-other after h x);
+      }
+  whatever-else after ReadAnswer.Intervals x = record { answer = ReadAnswer.Intervals; rows = readerRows k; read = outside-other x; output = refl }
+  whatever-else after ReadAnswer.Devices x = record { answer = ReadAnswer.Devices; rows = readerRows k; read = outside-other x; output = refl }
+  whatever-else after ReadAnswer.Room x =
+      record { answer = ReadAnswer.Room; rows = readerRows k; read = outside-room x; output = refl }
+    where
+      outside-room : Outside t (readerRows l) after (λ n d. (fromOne intervalsMost n ≡ true) × (fromOne devicesMost d ≡ true) × (roomOf (readerRows l) < n * d))
+          → Outside t (readerRows k) (readerRows k) (λ n d. (fromOne intervalsMost n ≡ true) × (fromOne devicesMost d ≡ true) × (roomOf (readerRows k) < n * d))
+      outside-room y =
+          record {
+            intervals = y .intervals;
+            devices = y .devices;
+            headed = y .headed;
+            offence = (y .offence .0, y .offence .1, subst (λ (m : ℕ). m < y .intervals * y .devices) (sym (same-room k l e)) (y .offence .2));
+            same = refl;
+          }
+  whatever-else after (ReadAnswer.Line n) x =
+      record { answer = ReadAnswer.Line n; rows = stored (x .lines) (readerRows k); read = wrong-other x; output = refl }
+
+-- ---- the whole
+
+settled-record : (h : Header) (r : Rows) (s : Devices.Rows)
+    → Settled (callOf h r s) (partsOf (h .devices * h .intervals) s) (partsAfter h r s) (answerTo h r s)
+unfolding partsAfter answerTo
+settled-record h r s = settled-call (callOf h r s) (partsOf (h .devices * h .intervals) s)
+
+abbrev pub lentAs : Rows → Devices.Rows → Lent
+lentAs r results = record { series = r .series; results = results }
+
+module _ (t : List ℕ) (l : Lent) (rows : Rows) (old new : List ℕ) (n : ℕ) where
+  pub reported : (a : ReadAnswer) → ReadRight t (readerRows l) rows a → Leads (outputOf a rows l) old new n
+      → Reported t l (lentAs rows (resultsOf a rows l)) old new n
+  reported a r w =
+      record {
+        answer = a;
+        rows = rows;
+        read = r;
+        written = w;
+        lent = refl;
+        settled = λ h e. settled-record h rows (l .results);
+        whatever = λ k e. whatever-else t k l e rows a r;
+      }
+
+  refusal : (a : ReadAnswer) (number device place : ℕ) → number ≡ Read.numberOf a → device ≡ Read.deviceOf a → place ≡ Read.placeOf a
+      → Leads (refusalText number device place) old new n → Leads (refusalText (Read.numberOf a) 0 (Read.placeOf a)) old new n
+  refusal a number device place x y z l =
+      subst (λ (i : ℕ). Leads (refusalText (Read.numberOf a) 0 i) old new n) z
+      (subst (λ (i : ℕ). Leads (refusalText (Read.numberOf a) i place) old new n) y
+      (subst (λ (i : ℕ). Leads (refusalText i device place) old new n) x l))
+
+  -- The reader refused.
+  pub reported-refusal : (a : ReadAnswer) (number device place : ℕ) → OneOf (1 ∷ 2 ∷ 3 ∷ 4 ∷ []) (tagOf ReadAnswerType.the-type a)
+      → ReadRight t (readerRows l) rows a → number ≡ Read.numberOf a → device ≡ Read.deviceOf a → place ≡ Read.placeOf a
+      → Leads (refusalText number device place) old new n → Reported t l (lentAs rows (l .results)) old new n
+  reported-refusal (ReadAnswer.Record h) number device place tag r x y z w = absurd (never tag)
+    where
+      never : OneOf (1 ∷ 2 ∷ 3 ∷ 4 ∷ []) 0 → ⊥
+      never o = ⊎-elim (λ x. omega (arith, x)) (⊎-elim (λ x. omega (arith, x)) (⊎-elim (λ x. omega (arith, x)) (λ x. omega (arith, x)))) o
+  reported-refusal ReadAnswer.Intervals number device place tag r x y z w = reported ReadAnswer.Intervals r (refusal ReadAnswer.Intervals number device place x y z w)
+  reported-refusal ReadAnswer.Devices number device place tag r x y z w = reported ReadAnswer.Devices r (refusal ReadAnswer.Devices number device place x y z w)
+  reported-refusal ReadAnswer.Room number device place tag r x y z w = reported ReadAnswer.Room r (refusal ReadAnswer.Room number device place x y z w)
+  reported-refusal (ReadAnswer.Line k) number device place tag r x y z w = reported (ReadAnswer.Line k) r (refusal (ReadAnswer.Line k) number device place x y z w)
+
+  -- A record was read and quantified.
+  pub reported-record : (a : ReadAnswer) (h : Header) (b : Answer) (results : Devices.Rows) → a ≡ ReadAnswer.Record h → ReadRight t (readerRows l) rows a
+      → Quantified h rows (l .results) results b → Leads (printed b) old new n → Reported t l (lentAs rows results) old new n
+  reported-record a h b results e r q w =
+      subst (λ (x : Devices.Rows). Reported t l (lentAs rows x) old new n) (sym (q .results))
+      (reported (ReadAnswer.Record h) (subst (ReadRight t (readerRows l) rows) e r) (subst (λ (x : Answer). Leads (printed x) old new n) (q .answer) w))

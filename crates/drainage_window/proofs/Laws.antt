@@ -1,0 +1,247 @@
+-- The laws of window statistics for the crates above: bounds of tally, mean and limit, and that the limit is the one
+-- solution of document 01's condition. Only `spread-below` looks at the condition's inequality.
+-- Assumes nothing.
+use Prim.Native.Nat.{ℕ, zero, suc, _+_, _-_, _*_, _/_, _≤_, _<_, zero-le, suc-le-suc}
+use mathlib.Core.Path.{_≡_, refl, sym, ap, ap₂, _∙_, subst}
+use mathlib.Core.Bool.{Bool, true, false}
+use mathlib.Core.Logic.{_⊎_, inl, inr, ⊎-elim}
+use mathlib.Core.List.{List, [], _∷_, _++_, map, map-append, map-id}
+use native.Mathlib.Nat.{le-refl, le-trans, le-step, not-suc-le-zero, not-le-of-lt, le-of-suc-le-suc, eq-or-lt-of-le, lt-of-le-of-lt, lt-of-not-le, le-antisymm, suc-mul, add-le-add, mul-le-mul, mul-le-mul-left, sub-le-sub-left, lt-mul-div-succ, div-le-of-le-mul}
+use native.Mathlib.Decide.{decLe}
+use native.Mathlib.Omega.{arith}
+use lib.Dec.{leb}
+use lib.ListN.{length, getD, length-append}
+use borrow.Author.Tests.{leb-true, le-leb, lt-leb}
+use Rattle.rows.specs.Rows.{both, total}
+use Rattle.rows.proofs.Laws.{both-true}
+use Rattle.drainage_window.specs.declared.Tally.{Tally}
+use Rattle.drainage_window.specs.Window.{tallyOf, meanOf, spreadOf, allowedOf, Meets, IsLimit, meets, greatestUpTo, limitOf, Low, Windows, Sized}
+
+-- ---- sums of values that are at most so much
+
+pub total-append : (xs ys : List ℕ) → total (xs ++ ys) ≡ total xs + total ys
+total-append [] ys = let z : total ys ≡ 0 + total ys = omega arith in z
+total-append (x ∷ xs) ys = let h : total (xs ++ ys) ≡ total xs + total ys = total-append xs ys in omega arith
+
+low-tail : (b x : ℕ) (xs : List ℕ) → Low b (x ∷ xs) → Low b xs
+low-tail b x xs l = record { low = λ k h. l .low (suc k) (suc-le-suc h) }
+
+low-head : (b x : ℕ) (xs : List ℕ) → Low b (x ∷ xs) → x ≤ b
+low-head b x xs l = l .low 0 (suc-le-suc (zero-le))
+
+-- the sum of any measure of the values is at most their number times its most
+measured-most : (f : ℕ → ℕ) (b c : ℕ) → ((v : ℕ) → v ≤ b → f v ≤ c) → (xs : List ℕ) → Low b xs → total (map f xs) ≤ length xs * c
+measured-most f b c m [] l = let z : 0 ≤ 0 * c = omega arith in z
+measured-most f b c m (x ∷ xs) l =
+    subst (λ (n : ℕ). f x + total (map f xs) ≤ n) (sym (suc-mul (length xs) c))
+    (let h : total (map f xs) ≤ length xs * c = measured-most f b c m xs (low-tail b x xs l) in
+    let g : f x ≤ c = m x (low-head b x xs l) in
+    omega arith)
+
+pub total-most : (b : ℕ) (xs : List ℕ) → Low b xs → total xs ≤ length xs * b
+total-most b xs l =
+    subst (λ (ys : List ℕ). total ys ≤ length xs * b) (map-id xs) (measured-most (λ v. v) b b (λ v h. h) xs l)
+
+pub squares-most : (b : ℕ) (xs : List ℕ) → Low b xs → total (map (λ v. v * v) xs) ≤ length xs * (b * b)
+squares-most b xs l = measured-most (λ v. v * v) b (b * b) (λ v h. mul-le-mul h h) xs l
+
+low-cons : (b x : ℕ) (xs : List ℕ) → x ≤ b → Low b xs → Low b (x ∷ xs)
+low-cons b x xs h l = record { low = go }
+  where
+    go : (k : ℕ) → k < suc (length xs) → getD (x ∷ xs) k 0 ≤ b
+    go zero z = h
+    go (suc k) z = l .low k (le-of-suc-le-suc z)
+
+pub low-append : (b : ℕ) (xs ys : List ℕ) → Low b xs → Low b ys → Low b (xs ++ ys)
+low-append b [] ys l m = m
+low-append b (x ∷ xs) ys l m =
+    low-cons b x (xs ++ ys) (low-head b x xs l) (low-append b xs ys (low-tail b x xs l) m)
+
+-- ---- the tally of two windows
+
+pub tally-append : (xs ys : List ℕ)
+    → tallyOf (xs ++ ys) ≡ record {
+      n = tallyOf xs .n + tallyOf ys .n;
+      sum = tallyOf xs .sum + tallyOf ys .sum;
+      squares = tallyOf xs .squares + tallyOf ys .squares;
+    }
+unfolding tallyOf
+tally-append xs ys =
+    λ i. record {
+      n = length-append xs ys i;
+      sum = total-append xs ys i;
+      squares = (ap total (map-append (λ v. v * v) xs ys) ∙ total-append (map (λ v. v * v) xs) (map (λ v. v * v) ys)) i;
+    }
+
+pub tally-count : (xs : List ℕ) → tallyOf xs .n ≡ length xs
+unfolding tallyOf
+tally-count xs = refl
+
+-- the sum of values that are at most b
+pub tally-most : (b : ℕ) (xs : List ℕ) → Low b xs → tallyOf xs .sum ≤ tallyOf xs .n * b
+unfolding tallyOf
+tally-most b xs l = total-most b xs l
+
+-- a gap's two windows have a tally for which mean and limit may be asked
+pub windows-sized : (before after : List ℕ) → Windows before after → Sized (tallyOf (before ++ after))
+unfolding tallyOf
+windows-sized before after w =
+    record {
+      some = subst (λ (n : ℕ). 0 < n) (sym len) (w .some);
+      few = subst (λ (n : ℕ). n ≤ 576) (sym len) (add-le-add (w .few-before) (w .few-after));
+      sum-most = total-most 30000 (before ++ after) both-low;
+      squares-most = squares-most 30000 (before ++ after) both-low;
+    }
+  where
+    len : length (before ++ after) ≡ length before + length after
+    len = length-append before after
+
+    both-low : Low 30000 (before ++ after)
+    both-low = low-append 30000 before after (w .low-before) (w .low-after)
+
+-- ---- the condition and its test
+
+pub meets-true : (t : Tally) (z L : ℕ) → meets t z L ≡ true → Meets t z L
+unfolding meets
+meets-true t z L e =
+    let h = both-true (leb (t .n * L) (t .sum)) (leb (spreadOf t z) (allowedOf t z L)) e in
+    record { room = leb-true (t .n * L) (t .sum) (h .0); spread = leb-true (spreadOf t z) (allowedOf t z L) (h .1) }
+
+pub meets-met : (t : Tally) (z L : ℕ) → Meets t z L → meets t z L ≡ true
+unfolding meets
+meets-met t z L m =
+    ap₂ both (le-leb (t .n * L) (t .sum) (m .room)) (le-leb (spreadOf t z) (allowedOf t z L) (m .spread))
+
+pub meets-false : (t : Tally) (z L : ℕ) → meets t z L ≡ false → Meets t z L → ⊥
+meets-false t z L e m = clash (meets-met t z L m) e
+  where
+    clash : {b : Bool} → b ≡ true → b ≡ false → ⊥
+    clash p q = let z : _≡_ {A = ℕ} 0 1 = cc in omega arith
+
+-- the test, once it is known whether S is at least nL
+pub meets-short : (t : Tally) (z L : ℕ) → t .sum < t .n * L → false ≡ meets t z L
+unfolding meets
+meets-short t z L h =
+    sym (ap (λ (b : Bool). both b (leb (spreadOf t z) (allowedOf t z L))) (lt-leb (t .n * L) (t .sum) h))
+
+pub meets-enough : (t : Tally) (z L : ℕ) → t .n * L ≤ t .sum → leb (spreadOf t z) (allowedOf t z L) ≡ meets t z L
+unfolding meets
+meets-enough t z L h =
+    sym (ap (λ (b : Bool). both b (leb (spreadOf t z) (allowedOf t z L))) (le-leb (t .n * L) (t .sum) h))
+
+-- more is allowed below a number than at it
+spread-below : (t : Tally) (z L M : ℕ) → L ≤ M → allowedOf t z M ≤ allowedOf t z L
+spread-below t z L M h =
+    add-le-add (le-refl (z * (t .sum * t .sum))) (mul-le-mul-left 100 (mul-le-mul-left _ (mul-le-mul nearer nearer)))
+  where
+    nearer : t .sum - t .n * M ≤ t .sum - t .n * L
+    nearer = sub-le-sub-left (mul-le-mul-left (t .n) h) (t .sum)
+
+-- what meets the condition, and everything below it
+pub meets-below : (t : Tally) (z L M : ℕ) → L ≤ M → Meets t z M → Meets t z L
+meets-below t z L M h m =
+    record {
+      room = le-trans (mul-le-mul-left (t .n) h) (m .room);
+      spread = le-trans (m .spread) (spread-below t z L M h);
+    }
+
+-- nothing above the mean meets it
+pub above-mean : (t : Tally) (z M : ℕ) → 0 < t .n → meanOf t < M → Meets t z M → ⊥
+unfolding meanOf
+above-mean t z M p h m =
+    not-le-of-lt (lt-mul-div-succ (t .sum) p)
+    (le-trans (mul-le-mul-left (t .n) (let k : t .sum / t .n + 1 ≤ M = omega arith in k)) (m .room))
+
+-- ---- the greatest number that passes a test
+
+module _ (p : ℕ → Bool) where
+  greatest-case : (k : ℕ)
+      → ((p (suc k) ≡ true) × (greatestUpTo p (suc k) ≡ suc k)) ⊎ ((p (suc k) ≡ false) × (greatestUpTo p (suc k) ≡ greatestUpTo p k))
+  unfolding greatestUpTo
+  greatest-case k = go (p (suc k)) refl
+    where
+      go : (b : Bool) → p (suc k) ≡ b → ((p (suc k) ≡ true) × (greatestUpTo p (suc k) ≡ suc k)) ⊎ ((p (suc k) ≡ false) × (greatestUpTo p (suc k) ≡ greatestUpTo p k))
+      go true e = inl (e, ap (λ (b : Bool). elim b [ true ↦ suc k | false ↦ greatestUpTo p k ]) e)
+      go false e = inr (e, ap (λ (b : Bool). elim b [ true ↦ suc k | false ↦ greatestUpTo p k ]) e)
+
+  greatest-zero : greatestUpTo p 0 ≡ 0
+  unfolding greatestUpTo
+  greatest-zero = refl
+
+  pub greatest-within : (k : ℕ) → greatestUpTo p k ≤ k
+  greatest-within zero = subst (λ (n : ℕ). n ≤ 0) (sym greatest-zero) (le-refl 0)
+  greatest-within (suc k) =
+      ⊎-elim
+      (λ c. subst (λ (n : ℕ). n ≤ suc k) (sym (c .1)) (le-refl (suc k)))
+      (λ c. subst (λ (n : ℕ). n ≤ suc k) (sym (c .1)) (le-step (greatest-within k)))
+      (greatest-case k)
+
+  pub greatest-passes : (k : ℕ) → 0 < greatestUpTo p k → p (greatestUpTo p k) ≡ true
+  greatest-passes zero h = absurd (not-suc-le-zero (subst (λ (n : ℕ). 0 < n) greatest-zero h))
+  greatest-passes (suc k) h =
+      ⊎-elim
+      (λ c. ap p (c .1) ∙ c .0)
+      (λ c. ap p (c .1) ∙ greatest-passes k (subst (λ (n : ℕ). 0 < n) (c .1) h))
+      (greatest-case k)
+
+  pub greatest-last : (k M : ℕ) → greatestUpTo p k < M → M ≤ k → p M ≡ false
+  greatest-last zero M h l = absurd (not-suc-le-zero (le-trans h l))
+  greatest-last (suc k) M h l =
+      ⊎-elim
+      (λ c. absurd (not-le-of-lt (subst (λ (n : ℕ). n < M) (c .1) h) l))
+      (λ c. ⊎-elim
+      (λ e. subst (λ (n : ℕ). p n ≡ false) (sym e) (c .0))
+      (λ s. greatest-last k M (subst (λ (n : ℕ). n < M) (c .1) h) (le-of-suc-le-suc s))
+      (eq-or-lt-of-le l))
+      (greatest-case k)
+
+-- ---- the limit
+
+-- the computed limit is what document 01 asks for
+pub limit-is : (t : Tally) (z : ℕ) → 0 < t .n → IsLimit t z (limitOf t z)
+unfolding limitOf
+limit-is t z p =
+    record {
+      reached = λ h. meets-true t z (limitOf t z) (greatest-passes (meets t z) (meanOf t) h);
+      greatest = λ M h m. elim (decLe M (meanOf t)) [
+        | yes l ↦ meets-false t z M (greatest-last (meets t z) (meanOf t) M h l) m
+        | no n ↦ above-mean t z M p (lt-of-not-le n) m
+      ];
+    }
+
+no-less : (t : Tally) (z L M : ℕ) → IsLimit t z L → IsLimit t z M → M ≤ L
+no-less t z L M x y =
+    elim (decLe M L) [
+      | yes l ↦ l
+      | no n ↦ absurd (x .greatest M (lt-of-not-le n) (y .reached (lt-of-le-of-lt (zero-le) (lt-of-not-le n))))
+    ]
+
+-- there is one limit
+pub limit-unique : (t : Tally) (z L M : ℕ) → IsLimit t z L → IsLimit t z M → L ≡ M
+limit-unique t z L M x y = le-antisymm (no-less t z M L y x) (no-less t z L M x y)
+
+-- whatever is a limit is the computed one
+pub limit-of : (t : Tally) (z L : ℕ) → 0 < t .n → IsLimit t z L → L ≡ limitOf t z
+limit-of t z L p x = limit-unique t z L (limitOf t z) x (limit-is t z p)
+
+-- ---- bounds of a replacement
+
+pub mean-most : (t : Tally) (b : ℕ) → t .sum ≤ t .n * b → meanOf t ≤ b
+unfolding meanOf
+mean-most t b h = div-le-of-le-mul (t .n) h
+
+pub limit-mean : (t : Tally) (z : ℕ) → limitOf t z ≤ meanOf t
+unfolding limitOf
+limit-mean t z = greatest-within (meets t z) (meanOf t)
+
+pub limit-most : (t : Tally) (z b : ℕ) → t .sum ≤ t .n * b → limitOf t z ≤ b
+limit-most t z b h = le-trans (limit-mean t z) (mean-most t b h)
+
+-- values of at most b, and a replacement of at most b
+pub windows-mean-most : (b : ℕ) (before after : List ℕ) → Low b before → Low b after → meanOf (tallyOf (before ++ after)) ≤ b
+windows-mean-most b before after l m =
+    mean-most (tallyOf (before ++ after)) b (tally-most b (before ++ after) (low-append b before after l m))
+
+pub windows-limit-most : (b z : ℕ) (before after : List ℕ) → Low b before → Low b after → limitOf (tallyOf (before ++ after)) z ≤ b
+windows-limit-most b z before after l m =
+    le-trans (limit-mean (tallyOf (before ++ after)) z) (windows-mean-most b before after l m)
