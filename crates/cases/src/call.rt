@@ -67,17 +67,17 @@ fn read(
     let n2 = tokens::next_number(t, n1.next);
     let n3 = tokens::next_number(t, n2.next);
     Sizes {
-        kinds: columns::row_u32(t, at, 0, words, 0),
-        counts: columns::row_u32(t, at, 1, words, columns::COUNTS),
-        positions: columns::row_u32(t, at, 2, words, columns::POSITIONS),
-        drifts: columns::row_i32(t, at, 3, drifts, 0),
-        flow: columns::row_u16(t, at, 4, halves, 0),
-        content: columns::row_u16(t, at, 5, halves, columns::CONTENT),
-        temp: columns::row_i16(t, at, 6, temp, 0),
-        press: columns::row_u32(t, at, 7, words, columns::PRESS),
-        status: columns::row_u8(t, at, 8, status, 0),
-        quantity: columns::row_u32(t, at, 9, words, columns::QUANTITY),
-        factor: columns::row_u32(t, at, 10, words, columns::FACTOR),
+        kinds: series::row_u32(t, at, 0, words, 0),
+        counts: series::row_u32(t, at, 1, words, series::COUNTS),
+        positions: series::row_u32(t, at, 2, words, series::POSITIONS),
+        drifts: series::row_i32(t, at, 3, drifts, 0),
+        flow: series::row_u16(t, at, 4, halves, 0),
+        content: series::row_u16(t, at, 5, halves, series::CONTENT),
+        temp: series::row_i16(t, at, 6, temp, 0),
+        press: series::row_u32(t, at, 7, words, series::PRESS),
+        status: series::row_u8(t, at, 8, status, 0),
+        quantity: series::row_u32(t, at, 9, words, series::QUANTITY),
+        factor: series::row_u32(t, at, 10, words, series::FACTOR),
         outcome: n1.value as usize,
         flow_used: n2.value as usize,
         content_used: n3.value as usize,
@@ -106,9 +106,9 @@ fn each_device(
     while d < most {
         show::device(
             d,
-            columns::part_u8(outcome, at, intervals),
-            columns::part_u16(flow_used, at, intervals),
-            columns::part_u16(content_used, at, intervals),
+            series::part_u8(outcome, at, intervals),
+            series::part_u16(flow_used, at, intervals),
+            series::part_u16(content_used, at, intervals),
         );
         at = plus(at, intervals);
         d += 1;
@@ -171,20 +171,20 @@ fn asked(
         h.intervals,
         h.devices,
         h.mine,
-        columns::part_u32(words, 0, s.kinds),
-        columns::part_u32(words, columns::COUNTS, s.counts),
-        columns::part_u32(words, columns::POSITIONS, s.positions),
-        columns::first_i32(drifts, s.drifts),
-        columns::part_u16(halves, 0, s.flow),
-        columns::part_u16(halves, columns::CONTENT, s.content),
-        columns::first_i16(temp, s.temp),
-        columns::part_u32(words, columns::PRESS, s.press),
-        columns::part_u8(status, 0, s.status),
-        columns::part_u32(words, columns::QUANTITY, s.quantity),
-        columns::part_u32(words, columns::FACTOR, s.factor),
-        columns::lent_u8(outcome, s.outcome),
-        columns::lent_u16(flow_used, s.flow_used),
-        columns::lent_u16(content_used, s.content_used),
+        series::part_u32(words, 0, s.kinds),
+        series::part_u32(words, series::COUNTS, s.counts),
+        series::part_u32(words, series::POSITIONS, s.positions),
+        series::first_i32(drifts, s.drifts),
+        series::part_u16(halves, 0, s.flow),
+        series::part_u16(halves, series::CONTENT, s.content),
+        series::first_i16(temp, s.temp),
+        series::part_u32(words, series::PRESS, s.press),
+        series::part_u8(status, 0, s.status),
+        series::part_u32(words, series::QUANTITY, s.quantity),
+        series::part_u32(words, series::FACTOR, s.factor),
+        series::lent_u8(outcome, s.outcome),
+        series::lent_u16(flow_used, s.flow_used),
+        series::lent_u16(content_used, s.content_used),
     )
 }
 
@@ -228,9 +228,9 @@ fn left(
         a,
         t,
         s.exact,
-        columns::part_u8(outcome, 0, s.outcome),
-        columns::part_u16(flow_used, 0, s.flow_used),
-        columns::part_u16(content_used, 0, s.content_used),
+        series::part_u8(outcome, 0, s.outcome),
+        series::part_u16(flow_used, 0, s.flow_used),
+        series::part_u16(content_used, 0, s.content_used),
     );
 }
 
@@ -248,9 +248,9 @@ fn painted(
     let mut outcome = [0u8; ENTRIES];
     let mut flow_used = [0u16; ENTRIES];
     let mut content_used = [0u16; ENTRIES];
-    columns::paint_u8(&mut outcome);
-    columns::paint_u16(&mut flow_used);
-    columns::paint_u16(&mut content_used);
+    series::paint_u8(&mut outcome);
+    series::paint_u16(&mut flow_used);
+    series::paint_u16(&mut content_used);
     let a = answered(
         h,
         s,

@@ -10,7 +10,7 @@ use libc::STDIN_FILENO;
 // The text is lent as an array, since as a slice its length would be counted out.
 fn run(text: &mut [u8; 1000000]) {
     let n = io::read_full(STDIN_FILENO, text);
-    call::all_cases(columns::part_u8(text, 0, n));
+    call::all_cases(series::part_u8(text, 0, n));
 }
 
 fn main() {

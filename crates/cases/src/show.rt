@@ -21,17 +21,13 @@ fn line(key: &[u8], v: u64) {
 }
 
 fn all_kept(outcome: &[u8], flow_used: &[u16], content_used: &[u16]) -> u64 {
-    if !columns::kept_u8(outcome) {
+    if !series::kept_u8(outcome) {
         return 0;
     }
-    if !columns::kept_u16(flow_used) {
+    if !series::kept_u16(flow_used) {
         return 0;
     }
-    if columns::kept_u16(content_used) {
-        1
-    } else {
-        0
-    }
+    if series::kept_u16(content_used) { 1 } else { 0 }
 }
 
 // A refusal, and whether every entry of the three result rows is what it was.
@@ -149,7 +145,7 @@ pub fn sheet(f: Figures, t: &[u8], at: usize) -> Nearness {
     let WriteAnswer::Written(n) = a else {
         return near_to(0, 1, 0);
     };
-    let s = columns::part_u8(&buf, 0, n);
+    let s = series::part_u8(&buf, 0, n);
     text(s);
     let exact = tokens::signed(t, at, 1000000000000000000);
     near_to(
@@ -161,7 +157,7 @@ pub fn sheet(f: Figures, t: &[u8], at: usize) -> Nearness {
 
 // The token at `at`.
 fn token(t: &[u8], at: usize) {
-    text(columns::part_u8(t, at, tokens::end(t, at) - at));
+    text(series::part_u8(t, at, tokens::end(t, at) - at));
 }
 
 // The exact milligrams as the input has them, and the two halves of demand 3.

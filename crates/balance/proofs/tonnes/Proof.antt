@@ -21,13 +21,17 @@ cast-result-2 : tie.Need-cast-result-2
 cast-result-2 c = record { sfits = omega arith }
 
 sub-result-3 : tie.Need-sub-result-3
-sub-result-3 c = less-fits (negsuc 0) ((c .before .args .debit - c .before .args .credit - 1) / 1000000000) (omega arith) (quotient-most (c .before .args .debit - c .before .args .credit - 1) (omega arith))
+sub-result-3 c =
+    less-fits (negsuc 0) ((c .before .args .debit - c .before .args .credit - 1) / 1000000000) (omega arith)
+    (quotient-most (c .before .args .debit - c .before .args .credit - 1) (omega arith))
 
 returns : tie.Need-returns
 returns c = toZ-pos w64 (omega arith) ∙ tonnes-up (c .before .args .credit) (c .before .args .debit) (c .if1 .taken)
 
 returns-2 : tie.Need-returns-2
-returns-2 c = below-back _ (quotient-most (c .before .args .debit - c .before .args .credit - 1) (omega arith)) ∙ tonnes-down (c .before .args .credit) (c .before .args .debit) (c .if1 .left)
+returns-2 c =
+    below-back _ (quotient-most (c .before .args .debit - c .before .args .credit - 1) (omega arith)) ∙ tonnes-down (c .before .args .credit)
+    (c .before .args .debit) (c .if1 .left)
 
 pub tonnes-spec : {M : Type 1} → statement M
 tonnes-spec =

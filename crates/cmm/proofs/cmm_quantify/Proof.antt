@@ -6,6 +6,8 @@ use Rattle.drainage.specs.Promise.{numberIn}
 use Rattle.cmm.proofs.Answers.{accepted-held, refused-held}
 use Rattle.cmm.proofs.cmm_quantify.Statement.{statement}
 use Rattle.cmm.proofs.cmm_quantify.Tie as tie
+mod PlaceNames
+use PlaceNames.*
 
 quantify-requires : tie.Need-quantify-requires
 quantify-requires c κs = search needs
@@ -26,45 +28,45 @@ number-requires : tie.Need-number-requires
 number-requires c κs = search needs
 
 same-length : tie.Need-same-length
-same-length c = c .before .before .before .before .before .before .before .before .before .before .before .outcome .given
+same-length c = outcome·same-length c .outcome .given
 
 same-length-2 : tie.Need-same-length-2
-same-length-2 c = c .before .before .before .before .before .before .before .before .before .flow-used .given
+same-length-2 c = flow-used·same-length-2 c .flow-used .given
 
 same-length-3 : tie.Need-same-length-3
-same-length-3 c = c .before .before .before .before .before .before .before .content-used .given
+same-length-3 c = content-used·same-length-3 c .content-used .given
 
 returns : tie.Need-returns
 returns c =
     record {
-      answer = c .before .before .before .before .before .before .before .before .before .before .before .before .quantify .result;
-      settled = c .before .before .before .before .before .before .before .before .before .before .before .before .quantify .ensures;
+      answer = quantify·returns c .quantify .result;
+      settled = quantify·returns c .quantify .ensures;
       told = c .number .ensures;
-      place = λ i. c .before .before .before .before .before .device .ensures i ∷ c .before .before .before .before .place .ensures i ∷ [];
-      figures = refused-held (c .before .before .before .before .before .before .before .before .before .before .before .before .quantify .result) _ (c .before .before .match .keys2);
+      place = λ i. device·returns c .device .ensures i ∷ place·returns c .place .ensures i ∷ [];
+      figures = refused-held (quantify·returns c .quantify .result) _ (match·returns c .match .keys2);
     }
 
 give-requires : tie.Need-give-requires
 give-requires c κs = search needs
 
 same-length-4 : tie.Need-same-length-4
-same-length-4 c = c .before .before .before .before .before .before .before .before .before .before .before .before .before .before .outcome .given
+same-length-4 c = outcome·same-length-4 c .outcome .given
 
 same-length-5 : tie.Need-same-length-5
-same-length-5 c = c .before .before .before .before .before .before .before .before .before .before .before .before .flow-used .given
+same-length-5 c = flow-used·same-length-5 c .flow-used .given
 
 same-length-6 : tie.Need-same-length-6
-same-length-6 c = c .before .before .before .before .before .before .before .before .before .before .content-used .given
+same-length-6 c = content-used·same-length-6 c .content-used .given
 
 returns-2 : tie.Need-returns-2
 returns-2 c =
-    let is = c .before .before .before .before .a .given .1 in
+    let is = a·returns-2 c .a .given .1 in
     record {
-      answer = c .before .before .before .before .before .before .before .before .before .before .before .before .before .before .before .quantify .result;
-      settled = c .before .before .before .before .before .before .before .before .before .before .before .before .before .before .before .quantify .ensures;
+      answer = quantify·returns-2 c .quantify .result;
+      settled = quantify·returns-2 c .quantify .ensures;
       told = sym (ap numberIn is);
-      place = λ i. c .before .before .before .before .before .before .before .before .device .ensures i ∷ c .before .before .before .before .before .before .before .place .ensures i ∷ [];
-      figures = accepted-held (c .before .before .before .before .before .before .before .before .before .before .before .before .before .before .before .quantify .result) _ _ _ is (c .give .ensures);
+      place = λ i. device·returns-2 c .device .ensures i ∷ place·returns-2 c .place .ensures i ∷ [];
+      figures = accepted-held (quantify·returns-2 c .quantify .result) _ _ _ is (c .give .ensures);
     }
 
 pub cmm-quantify-spec : {M : Type 1} → statement M

@@ -7,6 +7,8 @@ use Rattle.drainage_record.specs.Read.{numberOf}
 use Rattle.cmm.proofs.Answers.{record-head, no-record-head}
 use Rattle.cmm.proofs.cmm_read_record.Statement.{statement}
 use Rattle.cmm.proofs.cmm_read_record.Tie as tie
+mod PlaceNames
+use PlaceNames.*
 
 read-requires : tie.Need-read-requires
 read-requires c κs = search needs
@@ -21,54 +23,54 @@ number-requires : tie.Need-number-requires
 number-requires c κs = search needs
 
 same-length : tie.Need-same-length
-same-length c = c .before .before .before .before .before .before .before .before .before .before .before .before .flow .given
+same-length c = flow·same-length c .flow .given
 
 same-length-2 : tie.Need-same-length-2
-same-length-2 c = c .before .before .before .before .before .before .before .before .before .before .content .given
+same-length-2 c = content·same-length-2 c .content .given
 
 same-length-3 : tie.Need-same-length-3
-same-length-3 c = c .before .before .before .before .before .before .before .before .temp .given
+same-length-3 c = temp·same-length-3 c .temp .given
 
 same-length-4 : tie.Need-same-length-4
-same-length-4 c = c .before .before .before .before .before .before .before .press .given
+same-length-4 c = press·same-length-4 c .press .given
 
 same-length-5 : tie.Need-same-length-5
-same-length-5 c = c .before .before .before .before .before .status .given
+same-length-5 c = status·same-length-5 c .status .given
 
 returns : tie.Need-returns
 returns c =
     record {
-      answer = c .before .before .before .before .before .before .before .before .before .before .before .before .before .read .result;
-      right = c .before .before .before .before .before .before .before .before .before .before .before .before .before .read .ensures;
+      answer = read·returns c .read .result;
+      right = read·returns c .read .ensures;
       told = c .number .ensures;
-      place = ap (λ (n : ℕ). n ∷ []) (c .before .before .before .place .ensures);
-      head = no-record-head (c .before .before .before .before .before .before .before .before .before .before .before .before .before .read .result) _ (c .before .match .keys2);
+      place = ap (λ (n : ℕ). n ∷ []) (place·returns c .place .ensures);
+      head = no-record-head (read·returns c .read .result) _ (match·returns c .match .keys2);
     }
 
 same-length-6 : tie.Need-same-length-6
-same-length-6 c = c .before .before .before .before .before .before .before .before .before .before .before .before .before .before .flow .given
+same-length-6 c = flow·same-length-6 c .flow .given
 
 same-length-7 : tie.Need-same-length-7
-same-length-7 c = c .before .before .before .before .before .before .before .before .before .before .before .before .content .given
+same-length-7 c = content·same-length-7 c .content .given
 
 same-length-8 : tie.Need-same-length-8
-same-length-8 c = c .before .before .before .before .before .before .before .before .before .before .temp .given
+same-length-8 c = temp·same-length-8 c .temp .given
 
 same-length-9 : tie.Need-same-length-9
-same-length-9 c = c .before .before .before .before .before .before .before .before .before .press .given
+same-length-9 c = press·same-length-9 c .press .given
 
 same-length-10 : tie.Need-same-length-10
-same-length-10 c = c .before .before .before .before .before .before .before .status .given
+same-length-10 c = status·same-length-10 c .status .given
 
 returns-2 : tie.Need-returns-2
 returns-2 c =
-    let is = c .before .before .a .given .1 in
+    let is = a·returns-2 c .a .given .1 in
     record {
-      answer = c .before .before .before .before .before .before .before .before .before .before .before .before .before .before .before .read .result;
-      right = c .before .before .before .before .before .before .before .before .before .before .before .before .before .before .before .read .ensures;
+      answer = read·returns-2 c .read .result;
+      right = read·returns-2 c .read .ensures;
       told = sym (ap numberOf is);
-      place = ap (λ (n : ℕ). n ∷ []) (c .before .before .before .before .before .place .ensures);
-      head = record-head (c .before .before .before .before .before .before .before .before .before .before .before .before .before .before .before .read .result) _ _ is;
+      place = ap (λ (n : ℕ). n ∷ []) (place·returns-2 c .place .ensures);
+      head = record-head (read·returns-2 c .read .result) _ _ is;
     }
 
 pub cmm-read-record-spec : {M : Type 1} → statement M

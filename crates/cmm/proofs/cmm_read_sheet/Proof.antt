@@ -7,6 +7,8 @@ use Rattle.sheet_text.specs.Read as Read
 use Rattle.cmm.proofs.Answers.{sheet-held, no-sheet-held}
 use Rattle.cmm.proofs.cmm_read_sheet.Statement.{statement}
 use Rattle.cmm.proofs.cmm_read_sheet.Tie as tie
+mod PlaceNames
+use PlaceNames.*
 
 read-requires : tie.Need-read-requires
 read-requires c κs = search needs
@@ -26,11 +28,11 @@ number-requires c κs = search needs
 returns : tie.Need-returns
 returns c =
     record {
-      answer = c .before .before .before .before .before .read .result;
-      right = c .before .before .before .before .before .read .ensures;
+      answer = read·returns c .read .result;
+      right = read·returns c .read .ensures;
       told = c .number .ensures;
-      place = ap (λ (n : ℕ). n ∷ []) (c .before .before .before .before .place .ensures);
-      figures = no-sheet-held (c .before .before .before .before .before .read .result) _ (c .before .before .match .keys2);
+      place = ap (λ (n : ℕ). n ∷ []) (place·returns c .place .ensures);
+      figures = no-sheet-held (read·returns c .read .result) _ (match·returns c .match .keys2);
     }
 
 give-requires : tie.Need-give-requires
@@ -38,13 +40,13 @@ give-requires c κs = search needs
 
 returns-2 : tie.Need-returns-2
 returns-2 c =
-    let is = c .before .before .before .before .a .given .1 in
+    let is = a·returns-2 c .a .given .1 in
     record {
-      answer = c .before .before .before .before .before .before .before .before .read .result;
-      right = c .before .before .before .before .before .before .before .before .read .ensures;
+      answer = read·returns-2 c .read .result;
+      right = read·returns-2 c .read .ensures;
       told = sym (ap Read.numberOf is);
-      place = ap (λ (n : ℕ). n ∷ []) (c .before .before .before .before .before .before .before .place .ensures);
-      figures = sheet-held (c .before .before .before .before .before .before .before .before .read .result) _ _ _ is (c .give .ensures);
+      place = ap (λ (n : ℕ). n ∷ []) (place·returns-2 c .place .ensures);
+      figures = sheet-held (read·returns-2 c .read .result) _ _ _ is (c .give .ensures);
     }
 
 pub cmm-read-sheet-spec : {M : Type 1} → statement M

@@ -6,6 +6,8 @@ use borrow.Author.Needs.{needs}
 use Rattle.cmm.proofs.Answers.{same-written}
 use Rattle.cmm.proofs.cmm_write_sheet.Statement.{statement}
 use Rattle.cmm.proofs.cmm_write_sheet.Tie as tie
+mod PlaceNames
+use PlaceNames.*
 
 taken-requires : tie.Need-taken-requires
 taken-requires c κs = search needs
@@ -25,10 +27,12 @@ same-length c = search needs
 returns : tie.Need-returns
 returns c =
     record {
-      answer = c .before .before .before .before .before .write .result;
-      right = same-written (c .before .before .before .before .before .before .before .taken .result) _ _ _ (c .before .before .before .before .before .write .result) (c .before .before .before .before .before .before .before .taken .ensures) (c .before .before .before .before .before .write .ensures);
+      answer = write·returns c .write .result;
+      right =
+          same-written (taken·returns c .taken .result) _ _ _ (write·returns c .write .result) (taken·returns c .taken .ensures)
+          (write·returns c .write .ensures);
       told = c .number .ensures;
-      length = ap (λ (n : ℕ). n ∷ []) (c .before .before .length-of .ensures);
+      length = ap (λ (n : ℕ). n ∷ []) (length-of·returns c .length-of .ensures);
     }
 
 pub cmm-write-sheet-spec : {M : Type 1} → statement M

@@ -7,6 +7,8 @@ use borrow.Author.Needs.{needs}
 use Rattle.cmm.specs.Figures.{figuresIn}
 use Rattle.cmm.proofs.taken.Statement.{statement}
 use Rattle.cmm.proofs.taken.Tie as tie
+mod PlaceNames
+use PlaceNames.*
 
 element-copy-out-t5 : tie.Need-element-copy-out-t5
 element-copy-out-t5 c = search needs
@@ -56,8 +58,8 @@ element-copy-out-t47 c = search needs
 returns : tie.Need-returns
 unfolding figuresIn
 returns c =
-    let a = c .before .before .before .before .before .before .before .before .before .before .before .before .before .before .before .args .amounts .now in
-    let b = c .before .before .before .before .before .before .before .before .before .before .before .before .before .before .before .args .balances .now in
+    let a = start·returns c .args .amounts .now in
+    let b = start·returns c .args .balances .now in
     λ i. record {
       intervals = getD a 0 0;
       devices = getD a 1 0;
@@ -71,8 +73,8 @@ returns c =
       «co2_mg» = getD a 9 0;
       «uncombusted_mg» = getD a 10 0;
       «fuel_mg» = getD a 11 0;
-      «reduction_mg» = toZ-ofZ w64 (getD b 0 (pos 0)) (record { sfits = c .before .before .t41 .given }) i;
-      tonnes = toZ-ofZ w64 (getD b 1 (pos 0)) (record { sfits = c .before .t44 .given }) i;
+      «reduction_mg» = toZ-ofZ w64 (getD b 0 (pos 0)) (record { sfits = t41·returns c .t41 .given }) i;
+      tonnes = toZ-ofZ w64 (getD b 1 (pos 0)) (record { sfits = t44·returns c .t44 .given }) i;
       credits = getD a 12 0;
     }
 

@@ -9,6 +9,8 @@ use Rattle.drainage.proofs.fuel.Statement.{statement}
 use Rattle.drainage.proofs.fuel.Tie as tie
 use Rattle.drainage.proofs.fuel.Reads as reads
 use Rattle.drainage.proofs.fuel.Lts as lts
+mod PlaceNames
+use PlaceNames.*
 
 abbrev Inv-loop : tie.InvT-loop
 Inv-loop quantity factor sum₀ i₀ sum i = Burning (fuelOf quantity factor) sum i
@@ -16,57 +18,56 @@ Inv-loop quantity factor sum₀ i₀ sum i = Burning (fuelOf quantity factor) su
 abbrev μ-loop : tie.MeasureT-loop
 μ-loop quantity factor sum₀ i₀ sum i = length quantity - i
 
--- src/lib.rt:26:5
 loop-holds : tie.Need-loop-holds Inv-loop μ-loop
 loop-holds c = record { within = omega arith; fuels = c .pre; so-far = refl }
 
--- src/lib.rt:27:22
 mul-sum : tie.Need-mul-sum Inv-loop μ-loop
 mul-sum c = search needs
 
--- src/lib.rt:27:22
 shared-slice-read-sum : tie.Need-shared-slice-read-sum Inv-loop μ-loop
 shared-slice-read-sum c = search needs
 
--- src/lib.rt:27:22
 cast-sum : tie.Need-cast-sum Inv-loop μ-loop
-cast-sum c = omega (arith, (c .before .before .loop .inv) .fuels .quantity-most (c .before .before .loop .i) (c .before .loop-test .taken))
+cast-sum c = omega (arith, (loop·cast-sum c .loop .inv) .fuels .quantity-most (loop·cast-sum c .loop .i) (loop-test·cast-sum c .loop-test .taken))
 
--- src/lib.rt:27:45
 mul-sum-2 : tie.Need-mul-sum-2 Inv-loop μ-loop
 mul-sum-2 c = search needs
 
--- src/lib.rt:27:45
 shared-slice-read-sum-2 : tie.Need-shared-slice-read-sum-2 Inv-loop μ-loop
-shared-slice-read-sum-2 c = omega (arith, c .before .before .loop-test .taken, (c .before .before .before .loop .inv) .fuels .same-length)
+shared-slice-read-sum-2 c =
+    omega (arith, loop-test·shared-slice-read-sum-2 c .loop-test .taken, (loop·shared-slice-read-sum-2 c .loop .inv) .fuels .same-length)
 
--- src/lib.rt:27:45
 cast-sum-2 : tie.Need-cast-sum-2 Inv-loop μ-loop
-cast-sum-2 c = omega (arith, (c .before .before .before .loop .inv) .fuels .factor-most (c .before .before .before .loop .i) (c .before .before .loop-test .taken))
+cast-sum-2 c = omega (arith, (loop·cast-sum-2 c .loop .inv) .fuels .factor-most (loop·cast-sum-2 c .loop .i) (loop-test·cast-sum-2 c .loop-test .taken))
 
--- src/lib.rt:27:21
 mul-sum-3 : tie.Need-mul-sum-3 Inv-loop μ-loop
-mul-sum-3 c = omega (arith, line-most (fuelNow (c .before .before .before .before .args .quantity) (c .before .before .before .before .args .factor)) ((c .before .before .before .loop .inv) .fuels) (c .before .before .before .loop .i) (c .before .before .loop-test .taken))
+mul-sum-3 c =
+    omega (
+      arith,
+      line-most (fuelNow (start·mul-sum-3 c .args .quantity) (start·mul-sum-3 c .args .factor)) ((loop·mul-sum-3 c .loop .inv) .fuels)
+          (loop·mul-sum-3 c .loop .i) (loop-test·mul-sum-3 c .loop-test .taken),
+    )
 
--- src/lib.rt:27:15
 add-sum : tie.Need-add-sum Inv-loop μ-loop
-add-sum c = omega (arith, line-most (fuelNow (c .before .before .before .before .args .quantity) (c .before .before .before .before .args .factor)) ((c .before .before .before .loop .inv) .fuels) (c .before .before .before .loop .i) (c .before .before .loop-test .taken), sum-room _ _ _ (c .before .before .before .loop .inv))
+add-sum c =
+    omega (
+      arith,
+      line-most (fuelNow (start·add-sum c .args .quantity) (start·add-sum c .args .factor)) ((loop·add-sum c .loop .inv) .fuels) (loop·add-sum c .loop .i)
+          (loop-test·add-sum c .loop-test .taken),
+      sum-room _ _ _ (loop·add-sum c .loop .inv),
+    )
 
--- src/lib.rt:28:9
 add-i : tie.Need-add-i Inv-loop μ-loop
 add-i c = search needs
 
--- src/lib.rt:26:5
 loop-less : tie.Need-loop-less Inv-loop μ-loop
-loop-less c = omega (arith, c .before .before .loop-test .taken)
+loop-less c = omega (arith, loop-test·loop-less c .loop-test .taken)
 
--- src/lib.rt:26:5
 loop-again : tie.Need-loop-again Inv-loop μ-loop
-loop-again c = burning-more _ _ _ (c .before .before .before .loop .inv) (c .before .before .loop-test .taken)
+loop-again c = burning-more _ _ _ (loop·loop-again c .loop .inv) (loop-test·loop-again c .loop-test .taken)
 
--- src/lib.rt:19:1
 returns : tie.Need-returns Inv-loop μ-loop
-returns c = burnt _ _ _ (c .before .loop .inv) (c .loop-test .left)
+returns c = burnt _ _ _ (loop·returns c .loop .inv) (c .loop-test .left)
 
 pub fuel-spec : {M : Type 1} → statement M
 fuel-spec =

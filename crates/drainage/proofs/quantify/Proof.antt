@@ -21,6 +21,8 @@ use Rattle.drainage_judge.proofs.judge.Reads as judge-reads
 use Rattle.drainage_devices.proofs.fill_rows.Reads as fill-rows-reads
 use Rattle.drainage.proofs.fuel.Reads as fuel-reads
 use Rattle.drainage.proofs.sheet.Reads as sheet-reads
+mod PlaceNames
+use PlaceNames.*
 
 call : tie.Start → Call
 call s =
@@ -40,56 +42,55 @@ call s =
 rows : tie.Start → Rows
 rows s = record { outcome = s .args .outcome .now; flow = s .args .flow-used .now; content = s .args .content-used .now }
 
--- src/lib.rt:109:9
 judge-requires : tie.Need-judge-requires
 judge-requires c κs = search needs
 
--- src/lib.rt:128:29
 enum-known-verdict : tie.Need-enum-known-verdict
 enum-known-verdict c = search needs
 
--- src/lib.rt:129:9
 returns : tie.Need-returns
 unfolding call rows
-returns c = settled-refused (call (c .before .before .before .before .before .before .before .before .before .before .before .before .before .before .before .before)) (rows (c .before .before .before .before .before .before .before .before .before .before .before .before .before .before .before .before)) _ (sym (c .before .before .before .judge .ensures) ∙ c .before .verdict .given .1)
+returns c = settled-refused (call (start·returns c)) (rows (start·returns c)) _ (sym (judge·returns c .judge .ensures) ∙ verdict·returns c .verdict .given .1)
 
 enum-told : tie.Need-enum-told
 enum-told c = search needs
 
--- src/lib.rt:131:9
 fill-rows-requires : tie.Need-fill-rows-requires
 unfolding call rows
-fill-rows-requires c κs = let x = (accepted (call (c .before .before .before .before .before .before .before .before .before .before .before .before .before .before .before .before .before .before)) (sym (c .before .before .before .before .before .judge .ensures) ∙ c .before .before .before .enum-told .given .1)) in (sound (call (c .before .before .before .before .before .before .before .before .before .before .before .before .before .before .before .before .before .before)) x, x .outcome-long, x .flow-row-long, x .content-row-long)
+fill-rows-requires c κs =
+    let x = (accepted (call (start·fill-rows-requires c)) (sym (judge·fill-rows-requires c .judge .ensures) ∙ enum-told·fill-rows-requires
+    c .enum-told .given .1)) in (sound (call (start·fill-rows-requires c)) x, x .outcome-long, x .flow-row-long, x .content-row-long)
 
--- src/lib.rt:147:9
 fuel-requires : tie.Need-fuel-requires
 unfolding call rows
-fuel-requires c κs = let x = (accepted (call (c .before .before .before .before .before .before .before .before .before .before .before .before .before .before .before .before .before .before .before .before .before .before .before .before .before)) (sym (c .before .before .before .before .before .before .before .before .before .before .before .before .judge .ensures) ∙ c .before .before .before .before .before .before .before .before .before .before .enum-told .given .1)) in x .burnable
+fuel-requires c κs =
+    let x = (accepted (call (start·fuel-requires c)) (sym (judge·fuel-requires c .judge .ensures) ∙ enum-told·fuel-requires c .enum-told .given .1)) in
+    x .burnable
 
--- src/lib.rt:148:22
 sheet-requires : tie.Need-sheet-requires
 unfolding call rows
-sheet-requires c κs = moderate-call (call (c .before .before .before .before .before .before .before .before .before .before .before .before .before .before .before .before .before .before .before .before .before .before .before .before .before .before)) (accepted (call (c .before .before .before .before .before .before .before .before .before .before .before .before .before .before .before .before .before .before .before .before .before .before .before .before .before .before)) (sym (c .before .before .before .before .before .before .before .before .before .before .before .before .before .judge .ensures) ∙ c .before .before .before .before .before .before .before .before .before .before .before .enum-told .given .1)) _ _ (c .before .before .before .before .before .before .before .fill-rows .ensures .totals) (c .fuel .ensures .1)
+sheet-requires c κs =
+    moderate-call (call (start·sheet-requires c)) (accepted (call (start·sheet-requires c))
+    (sym (judge·sheet-requires c .judge .ensures) ∙ enum-told·sheet-requires c .enum-told .given .1)) _ _
+    (fill-rows·sheet-requires c .fill-rows .ensures .totals) (c .fuel .ensures .1)
 
--- src/lib.rt:63:1
 same-length : tie.Need-same-length
 same-length c = search needs
 
--- src/lib.rt:63:1
 same-length-2 : tie.Need-same-length-2
 same-length-2 c = search needs
 
--- src/lib.rt:63:1
 same-length-3 : tie.Need-same-length-3
 same-length-3 c = search needs
 
--- src/lib.rt:63:1
 returns-2 : tie.Need-returns-2
 unfolding call rows
-returns-2 c = let s = c .before .before .before .before .before .before .before .before .before .before .before .before .before .before .before .before .before .before .before .before .before .before .before .before .before .before .before in
-    let w = c .before .before .before .before .before .before .before .before .fill-rows .ensures in
-    settled-made (call s) (rows s) _ _ _ (c .before .before .before .before .before .before .before .before .fill-rows .result) (c .sheet .result) (sym (c .before .before .before .before .before .before .before .before .before .before .before .before .before .before .judge .ensures) ∙ c .before .before .before .before .before .before .before .before .before .before .before .before .enum-told .given .1) w
-    (sheet-is (call s) (c .before .before .before .before .before .before .before .before .fill-rows .result) (c .before .fuel .result) (c .sheet .result) (c .sheet .ensures) (w .totals) (c .before .fuel .ensures .0))
+returns-2 c = let s = start·returns-2 c in
+    let w = fill-rows·returns-2 c .fill-rows .ensures in
+    settled-made (call s) (rows s) _ _ _ (fill-rows·returns-2 c .fill-rows .result) (c .sheet .result)
+    (sym (judge·returns-2 c .judge .ensures) ∙ enum-told·returns-2 c .enum-told .given .1) w
+    (sheet-is (call s) (fill-rows·returns-2 c .fill-rows .result) (fuel·returns-2 c .fuel .result) (c .sheet .result) (c .sheet .ensures) (w .totals)
+    (fuel·returns-2 c .fuel .ensures .0))
 
 pub quantify-spec : {M : Type 1} → statement M
 quantify-spec =

@@ -15,29 +15,25 @@ use Rattle.balance.proofs.credits.Reads as credits-reads
 use Rattle.balance.proofs.reduction.Reads as reduction-reads
 use Rattle.balance.proofs.tonnes.Reads as tonnes-reads
 
--- src/lib.rt:40:17
 add-debit : tie.Need-add-debit
 add-debit c = search needs
 
--- src/lib.rt:40:17
 add-debit-2 : tie.Need-add-debit-2
 add-debit-2 c = search needs
 
--- src/lib.rt:41:9
 tonnes-requires : tie.Need-tonnes-requires
 tonnes-requires c κs = search needs
 
--- src/lib.rt:55:23
 reduction-requires : tie.Need-reduction-requires
 reduction-requires c κs = search needs
 
--- src/lib.rt:57:18
 credits-requires : tie.Need-credits-requires
 credits-requires c κs = search needs
 
--- src/lib.rt:35:1
 returns : tie.Need-returns
-returns c = sheet-of _ _ _ _ _ _ _ (toZ-ofZ {w = w64} (record { sfits = c .before .reduction .ok }) ∙ c .before .reduction .ensures) (toZ-ofZ {w = w64} (record { sfits = c .before .before .tonnes .ok }) ∙ c .before .before .tonnes .ensures) (c .credits .ensures)
+returns c =
+    sheet-of _ _ _ _ _ _ _ (toZ-ofZ {w = w64} (record { sfits = c .before .reduction .ok }) ∙ c .before .reduction .ensures)
+    (toZ-ofZ {w = w64} (record { sfits = c .before .before .tonnes .ok }) ∙ c .before .before .tonnes .ensures) (c .credits .ensures)
 
 pub sheet-spec : {M : Type 1} → statement M
 sheet-spec =

@@ -48,7 +48,8 @@ loop-again c = (
   search needs,
   search needs,
   search needs,
-  stored _ (c .before .before .loop .i) _ (keptOr 0 (c .before .before .before .args .reading .now)) _ (c .before .before .loop .used) (omega arith) (omega arith)
+  stored _ (c .before .before .loop .i) _ (keptOr 0 (c .before .before .before .args .reading .now)) _ (c .before .before .loop .used) (omega arith)
+      (omega arith)
       (kept-copied (c .before .before .before .args .reading .now) (c .before .before .loop .i) (omega arith))
       (c .before .before .loop .inv .5),
 )
@@ -57,7 +58,9 @@ same-length : tie.Need-same-length Inv-loop μ-loop
 same-length c = search needs
 
 returns : tie.Need-returns Inv-loop μ-loop
-returns c = subst (λ (m : ℕ). Continued (c .before .before .args .start) m (keptOr 0 (c .before .before .args .reading .now)) (c .before .before .args .used .now) (c .before .loop .used))
+returns c =
+    subst (λ (m : ℕ). Continued (c .before .before .args .start) m (keptOr 0 (c .before .before .args .reading .now)) (c .before .before .args .used .now)
+    (c .before .loop .used))
     (let w : c .before .loop .i ≡ c .before .before .args .end = omega arith in w) (c .before .loop .inv .5)
 
 pub copied-spec : {M : Type 1} → statement M

@@ -9,6 +9,8 @@ use Rattle.drainage_drift.proofs.Walk.{Walked, walked-none, walked-pass
 use lib.IntN.{pos}
 use Rattle.drainage_drift.proofs.correct.Statement.{statement}
 use Rattle.drainage_drift.proofs.correct.Tie as tie
+mod PlaceNames
+use PlaceNames.*
 
 abbrev Inv-loop : tie.InvT-loop
 Inv-loop reading count positions drifts used₀ n k start₀ divisor₀ j₀ used start divisor j =
@@ -18,7 +20,7 @@ abbrev μ-loop : tie.MeasureT-loop
 μ-loop reading count positions drifts used₀ n k start₀ divisor₀ j₀ used start divisor j = count - j
 
 loop-holds : tie.Need-loop-holds Inv-loop μ-loop
-loop-holds c = walked-none _ _ _ (c .before .before .before .pre .0) (c .before .before .before .pre .1)
+loop-holds c = walked-none _ _ _ (start·loop-holds c .pre .0) (start·loop-holds c .pre .1)
 
 mul-drift : tie.Need-mul-drift Inv-loop μ-loop
 mul-drift c = search needs
@@ -36,14 +38,14 @@ shared-slice-read-end : tie.Need-shared-slice-read-end Inv-loop μ-loop
 shared-slice-read-end c = search needs
 
 cast-end : tie.Need-cast-end Inv-loop μ-loop
-cast-end c = let h = c .shared-slice-known3 .given (c .before .before .before .before .before .loop .j) in search needs
+cast-end c = let h = c .shared-slice-known3 .given (loop·cast-end c .loop .j) in search needs
 
 stretch-requires : tie.Need-stretch-requires Inv-loop μ-loop
 stretch-requires c κs = (
-  c .before .before .before .before .before .before .loop .inv .ahead (c .before .before .before .before .before .before .loop .j) (le-refl _) (c .before .before .before .before .before .loop-test .taken),
-  c .before .before .before .before .before .before .loop .inv .ordered .inside (c .before .before .before .before .before .before .loop .j) (c .before .before .before .before .before .loop-test .taken),
-  c .before .before .before .before .before .before .loop .inv .same-length,
-  omega (arith, c .before .before .before .before .before .before .loop .inv .greatest),
+  loop·stretch-requires c .loop .inv .ahead (loop·stretch-requires c .loop .j) (le-refl _) (loop-test·stretch-requires c .loop-test .taken),
+  loop·stretch-requires c .loop .inv .ordered .inside (loop·stretch-requires c .loop .j) (loop-test·stretch-requires c .loop-test .taken),
+  loop·stretch-requires c .loop .inv .same-length,
+  omega (arith, loop·stretch-requires c .loop .inv .greatest),
 )
 
 add-j : tie.Need-add-j Inv-loop μ-loop
@@ -53,9 +55,10 @@ loop-less : tie.Need-loop-less Inv-loop μ-loop
 loop-less c = search needs
 
 loop-again : tie.Need-loop-again Inv-loop μ-loop
-loop-again c = walked-passed _ _ _ _ _ (c .before .before .before .before .before .before .before .before .before .loop .j) _ _ (c .before .before .before .before .before .before .before .before .before .loop .inv) (c .before .before .before .before .before .before .before .before .loop-test .taken)
-    (read-passes (getD (c .before .before .before .before .before .before .before .before .before .before .before .before .before .args .drifts .now) (c .before .before .before .before .before .before .before .before .before .loop .j) (pos 0)) (c .before .before .before .before .before .before .before .drift .given) _ _ (c .before .before .before .before .before .before .passed .ensures) (c .before .before .before .before .before .if1 .taken))
-    (c .before .before .stretch .ensures)
+loop-again c = walked-passed _ _ _ _ _ (loop·loop-again c .loop .j) _ _ (loop·loop-again c .loop .inv) (loop-test·loop-again c .loop-test .taken)
+    (read-passes (getD (start·loop-again c .args .drifts .now) (loop·loop-again c .loop .j) (pos 0)) (drift·loop-again c .drift .given) _ _
+    (passed·loop-again c .passed .ensures) (if1·loop-again c .if1 .taken))
+    (stretch·loop-again c .stretch .ensures)
 
 raise-requires : tie.Need-raise-requires Inv-loop μ-loop
 raise-requires c κs = search needs
@@ -70,18 +73,27 @@ loop-less-2 : tie.Need-loop-less-2 Inv-loop μ-loop
 loop-less-2 c = search needs
 
 loop-again-2 : tie.Need-loop-again-2 Inv-loop μ-loop
-loop-again-2 c = walked-failed _ _ _ _ (c .before .before .before .before .before .before .loop .j) _ _ (c .before .before .before .before .before .before .loop .inv) _ (c .before .before .before .before .before .loop-test .taken)
-    (read-passes (getD (c .before .before .before .before .before .before .before .before .before .before .args .drifts .now) (c .before .before .before .before .before .before .loop .j) (pos 0)) (c .before .before .before .before .drift .given) _ _ (c .before .before .before .passed .ensures) (c .before .before .if1 .left))
-    (read-greater (getD (c .before .before .before .before .before .before .before .before .before .before .args .drifts .now) (c .before .before .before .before .before .before .loop .j) (pos 0)) (c .before .before .before .before .drift .given) (c .before .before .before .before .before .before .loop .divisor) _ _ (c .before .raise .ensures) (c .greater .ensures))
+loop-again-2 c = walked-failed _ _ _ _ (loop·loop-again-2 c .loop .j) _ _ (loop·loop-again-2 c .loop .inv) _ (loop-test·loop-again-2 c .loop-test .taken)
+    (read-passes (getD (start·loop-again-2 c .args .drifts .now) (loop·loop-again-2 c .loop .j) (pos 0)) (drift·loop-again-2 c .drift .given) _ _
+    (passed·loop-again-2 c .passed .ensures) (if1·loop-again-2 c .if1 .left))
+    (read-greater (getD (start·loop-again-2 c .args .drifts .now) (loop·loop-again-2 c .loop .j) (pos 0)) (drift·loop-again-2 c .drift .given)
+    (loop·loop-again-2 c .loop .divisor) _ _ (raise·loop-again-2 c .raise .ensures) (c .greater .ensures))
 
 stretch-requires-2 : tie.Need-stretch-requires-2 Inv-loop μ-loop
-stretch-requires-2 c κs = (c .before .before .loop .inv .inside, le-refl _, c .before .before .loop .inv .same-length, omega (arith, c .before .before .loop .inv .greatest))
+stretch-requires-2 c κs = (
+  loop·stretch-requires-2 c .loop .inv .inside,
+  le-refl _,
+  loop·stretch-requires-2 c .loop .inv .same-length,
+  omega (arith, loop·stretch-requires-2 c .loop .inv .greatest),
+)
 
 same-length : tie.Need-same-length Inv-loop μ-loop
 same-length c = search needs
 
 returns : tie.Need-returns Inv-loop μ-loop
-returns c = walked-all _ _ _ _ _ (c .before .before .before .before .before .loop .j) _ _ (c .before .before .before .before .before .loop .inv) (c .before .before .before .before .loop-test .left) (c .before .before .stretch2 .ensures)
+returns c =
+    walked-all _ _ _ _ _ (loop·returns c .loop .j) _ _ (loop·returns c .loop .inv) (loop-test·returns c .loop-test .left)
+    (stretch2·returns c .stretch2 .ensures)
 
 pub correct-spec : {M : Type 1} → statement M
 correct-spec =

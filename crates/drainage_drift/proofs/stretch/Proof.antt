@@ -11,6 +11,8 @@ use Rattle.drainage_drift.proofs.Laws.{kept-marks, kept-divides, quotie
 use Rattle.drainage_drift.proofs.Walk.{stored, undivided}
 use Rattle.drainage_drift.proofs.stretch.Statement.{statement}
 use Rattle.drainage_drift.proofs.stretch.Tie as tie
+mod PlaceNames
+use PlaceNames.*
 
 abbrev Inv-loop : tie.InvT-loop
 Inv-loop reading start end divisor used₀ i₀ used i =
@@ -27,7 +29,7 @@ same-length : tie.Need-same-length Inv-loop μ-loop
 same-length c = search needs
 
 returns : tie.Need-returns Inv-loop μ-loop
-returns c = undivided (c .before .before .before .before .before .before .before .args .divisor) _ (c .before .before .before .before .if1 .taken) (c .before .before .copied .ensures)
+returns c = undivided (start·returns c .args .divisor) _ (if1·returns c .if1 .taken) (copied·returns c .copied .ensures)
 
 loop-holds : tie.Need-loop-holds Inv-loop μ-loop
 loop-holds c = search needs
@@ -58,21 +60,22 @@ loop-again c = (
   search needs,
   search needs,
   search needs,
-  stored _ (c .before .before .before .loop .i) _ (keptOr (c .before .before .before .before .before .before .before .args .divisor - 10000) (c .before .before .before .before .before .before .before .args .reading .now)) _ (c .before .before .before .loop .used) (omega arith) (omega arith)
-      (kept-marks (c .before .before .before .before .before .before .before .args .divisor) (c .before .before .before .before .before .before .before .args .reading .now) (c .before .before .before .loop .i) (omega arith) (c .if2 .taken))
-      (c .before .before .before .loop .inv .6),
+  stored _ (loop·loop-again c .loop .i) _ (keptOr (start·loop-again c .args .divisor - 10000) (start·loop-again c .args .reading .now)) _
+      (loop·loop-again c .loop .used) (omega arith) (omega arith)
+      (kept-marks (start·loop-again c .args .divisor) (start·loop-again c .args .reading .now) (loop·loop-again c .loop .i) (omega arith) (c .if2 .taken))
+      (loop·loop-again c .loop .inv .6),
 )
 
 cast-scaled : tie.Need-cast-scaled Inv-loop μ-loop
-cast-scaled c = let h = c .before .shared-slice-known2 .given (c .before .before .before .loop .i) in search needs
+cast-scaled c = let h = shared-slice-known2·cast-scaled c .shared-slice-known2 .given (loop·cast-scaled c .loop .i) in search needs
 
 scaled-requires : tie.Need-scaled-requires Inv-loop μ-loop
-scaled-requires c κs = let h = c .before .shared-slice-known2 .given (c .before .before .before .loop .i) in search needs
+scaled-requires c κs = let h = shared-slice-known2·scaled-requires c .shared-slice-known2 .given (loop·scaled-requires c .loop .i) in search needs
 
 cast-used : tie.Need-cast-used Inv-loop μ-loop
 cast-used c =
-    let h = c .before .before .shared-slice-known2 .given (c .before .before .before .before .loop .i) in
-    let q = quotient-le (c .before .before .before .before .before .before .before .before .args .divisor) (getD (c .before .before .before .before .before .before .before .before .args .reading .now) (c .before .before .before .before .loop .i) 0) (omega arith) in
+    let h = shared-slice-known2·cast-used c .shared-slice-known2 .given (loop·cast-used c .loop .i) in
+    let q = quotient-le (start·cast-used c .args .divisor) (getD (start·cast-used c .args .reading .now) (loop·cast-used c .loop .i) 0) (omega arith) in
     let r = c .scaled .ensures in search needs
 
 mul-used-2 : tie.Need-mul-used-2 Inv-loop μ-loop
@@ -95,17 +98,21 @@ loop-again-2 c = (
   search needs,
   search needs,
   search needs,
-  stored _ (c .before .before .before .before .loop .i) _ (keptOr (c .before .before .before .before .before .before .before .before .args .divisor - 10000) (c .before .before .before .before .before .before .before .before .args .reading .now)) _ (c .before .before .before .before .loop .used) (omega arith) (omega arith)
-      (c .scaled .ensures ∙ kept-divides (c .before .before .before .before .before .before .before .before .args .divisor) (c .before .before .before .before .before .before .before .before .args .reading .now) (c .before .before .before .before .loop .i) (omega arith) (omega arith) (c .before .if2 .left))
-      (c .before .before .before .before .loop .inv .6),
+  stored _ (loop·loop-again-2 c .loop .i) _ (keptOr (start·loop-again-2 c .args .divisor - 10000) (start·loop-again-2 c .args .reading .now)) _
+      (loop·loop-again-2 c .loop .used) (omega arith) (omega arith)
+      (c .scaled .ensures ∙ kept-divides (start·loop-again-2 c .args .divisor) (start·loop-again-2 c .args .reading .now) (loop·loop-again-2 c .loop .i)
+      (omega arith) (omega arith) (if2·loop-again-2 c .if2 .left))
+      (loop·loop-again-2 c .loop .inv .6),
 )
 
 same-length-2 : tie.Need-same-length-2 Inv-loop μ-loop
 same-length-2 c = search needs
 
 returns-2 : tie.Need-returns-2 Inv-loop μ-loop
-returns-2 c = subst (λ (m : ℕ). Continued (c .before .before .before .before .before .args .start) m (keptOr (c .before .before .before .before .before .args .divisor - 10000) (c .before .before .before .before .before .args .reading .now)) (c .before .before .before .before .before .args .used .now) (c .before .loop .used))
-    (let w : c .before .loop .i ≡ c .before .before .before .before .before .args .end = omega arith in w) (c .before .loop .inv .6)
+returns-2 c =
+    subst (λ (m : ℕ). Continued (start·returns-2 c .args .start) m (keptOr (start·returns-2 c .args .divisor - 10000) (start·returns-2 c .args .reading .now))
+    (start·returns-2 c .args .used .now) (loop·returns-2 c .loop .used))
+    (let w : loop·returns-2 c .loop .i ≡ start·returns-2 c .args .end = omega arith in w) (loop·returns-2 c .loop .inv .6)
 
 pub stretch-spec : {M : Type 1} → statement M
 stretch-spec =

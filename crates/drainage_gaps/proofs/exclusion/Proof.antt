@@ -13,29 +13,23 @@ use Rattle.drainage_gaps.proofs.exclusion.Tie as tie
 use Rattle.drainage_gaps.proofs.exclusion.Reads as reads
 use Rattle.drainage_gaps.proofs.exclusion.Lts as lts
 
--- src/lib.rt:79:33
 enum-told : tie.Need-enum-told
 enum-told c = search needs
 
--- src/lib.rt:80:34
 enum-told-2 : tie.Need-enum-told-2
 enum-told-2 c = search needs
 
--- src/lib.rt:81:28
 enum-known-answer : tie.Need-enum-known-answer
 enum-known-answer c = search needs
 
--- src/lib.rt:75:1
 returns : tie.Need-returns
 unfolding heldFor
 returns c = sym (ap heldFor (c .enum-told .given .1))
 
--- src/lib.rt:75:1
 returns-2 : tie.Need-returns-2
 unfolding heldFor
 returns-2 c = sym (ap heldFor (c .enum-told2 .given .1))
 
--- src/lib.rt:75:1
 returns-3 : tie.Need-returns-3
 unfolding heldFor
 returns-3 c = sym (ap heldFor (c .before .answer .given .1))

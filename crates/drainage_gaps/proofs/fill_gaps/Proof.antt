@@ -11,6 +11,8 @@ use Rattle.drainage_gaps.specs.Gaps.{heldFor}
 use Rattle.drainage_gaps.proofs.Filling.{Filling, filling-start, filling-next, filling-gap, filling-done, goes-on, length-used}
 use Rattle.drainage_gaps.proofs.fill_gaps.Statement.{statement}
 use Rattle.drainage_gaps.proofs.fill_gaps.Tie as tie
+mod PlaceNames
+use PlaceNames.*
 
 abbrev Inv-loop : tie.InvT-loop
 Inv-loop reading used₀ n i₀ used i = (n ≡ length reading) × Filling reading used₀ used i
@@ -19,20 +21,20 @@ abbrev μ-loop : tie.MeasureT-loop
 μ-loop reading used₀ n i₀ used i = n - i
 
 -- the entry at i is there,
-inside : (c : tie.In-loop Inv-loop μ-loop) → c .before .loop .i < length (c .before .before .before .before .args .reading .now)
-inside c = omega (arith, c .loop-test .taken, c .before .loop .inv .0)
+inside : (c : tie.In-loop Inv-loop μ-loop) → loop·inside c .loop .i < length (start·inside c .args .reading .now)
+inside c = omega (arith, c .loop-test .taken, loop·inside c .loop .inv .0)
 
 -- and where it is missing, the gap from it ends later
-is-missing : (c : tie.Then1 Inv-loop μ-loop) → missingAt (c .before .before .before .before .before .before .args .reading .now) (c .before .before .before .loop .i) ≡ true
-is-missing c = missing-is (c .before .before .before .before .before .before .args .reading .now) (c .before .before .before .loop .i) (inside (c .before .before)) (c .if1 .taken)
+is-missing : (c : tie.Then1 Inv-loop μ-loop) → missingAt (start·is-missing c .args .reading .now) (loop·is-missing c .loop .i) ≡ true
+is-missing c = missing-is (start·is-missing c .args .reading .now) (loop·is-missing c .loop .i) (inside (loop-test·is-missing c)) (c .if1 .taken)
 
-later : (c : tie.After-gap-end Inv-loop μ-loop) → c .before .before .before .before .loop .i < c .gap-end .result
+later : (c : tie.After-gap-end Inv-loop μ-loop) → loop·later c .loop .i < c .gap-end .result
 later c =
-    subst (λ (x : ℕ). c .before .before .before .before .loop .i < x) (sym (c .gap-end .ensures .0))
-    (around (c .before .before .before .before .before .before .before .args .reading .now) (c .before .before .before .before .loop .i) (inside (c .before .before .before)) (is-missing (c .before)) .1)
+    subst (λ (x : ℕ). loop·later c .loop .i < x) (sym (c .gap-end .ensures .0))
+    (around (start·later c .args .reading .now) (loop·later c .loop .i) (inside (loop-test·later c)) (is-missing (if1·later c)) .1)
 
 loop-holds : tie.Need-loop-holds Inv-loop μ-loop
-loop-holds c = (refl, filling-start _ _ _ (c .before .before .pre .0) (c .before .before .pre .1) refl)
+loop-holds c = (refl, filling-start _ _ _ (start·loop-holds c .pre .0) (start·loop-holds c .pre .1) refl)
 
 mul-if1 : tie.Need-mul-if1 Inv-loop μ-loop
 mul-if1 c = search needs
@@ -45,58 +47,65 @@ gap-end-requires c κs = search needs
 
 replace-gap-requires : tie.Need-replace-gap-requires Inv-loop μ-loop
 replace-gap-requires c κs =
-    let v = c .before .before .before .before .before .loop .inv .1 in
-    (later (c .before), c .before .gap-end .ensures .2, v .few, goes-on _ _ _ _ v)
+    let v = loop·replace-gap-requires c .loop .inv .1 in
+    (later (gap-end·replace-gap-requires c), gap-end·replace-gap-requires c .gap-end .ensures .2, v .few, goes-on _ _ _ _ v)
 
 held-requires : tie.Need-held-requires Inv-loop μ-loop
 held-requires c κs = search needs
 
 spread-requires : tie.Need-spread-requires Inv-loop μ-loop
 spread-requires c κs =
-    let g = c .before .before .before .before .before .before .before .before .before .before .before .args in
-    let v = c .before .before .before .before .before .before .before .before .loop .inv .1 in (
-      c .before .before .before .before .gap-end .ensures .1,
-      subst (λ (x : ℕ). c .before .before .before .before .gap-end .result ≤ x)
-          (sym (length-used (g .reading .now) (g .used .now) (c .before .before .before .before .before .before .before .before .loop .used) (c .before .before .before .before .before .before .before .before .loop .i) v ∙ v .goes .same-length)) (c .before .before .before .before .gap-end .ensures .2),
+    let g = start·spread-requires c .args in
+    let v = loop·spread-requires c .loop .inv .1 in (
+      gap-end·spread-requires c .gap-end .ensures .1,
+      subst (λ (x : ℕ). gap-end·spread-requires c .gap-end .result ≤ x)
+          (sym (length-used (g .reading .now) (g .used .now) (loop·spread-requires c .loop .used) (loop·spread-requires c .loop .i) v ∙ v .goes .same-length))
+          (gap-end·spread-requires c .gap-end .ensures .2),
     )
 
 loop-less : tie.Need-loop-less Inv-loop μ-loop
-loop-less c = omega (arith, later (c .before .before .before .before .before .before .before), c .before .before .before .before .before .before .before .gap-end .ensures .2)
+loop-less c = omega (arith, later (gap-end·loop-less c), gap-end·loop-less c .gap-end .ensures .2)
 
 loop-again : tie.Need-loop-again Inv-loop μ-loop
 loop-again c =
-    let g = c .before .before .before .before .before .before .before .before .before .before .before .before .before .before .args in
-    let new = c .before .before .spread .last .0 in (
+    let g = start·loop-again c .args in
+    let new = spread·loop-again c .spread .last .0 in (
       refl,
-      filling-gap (g .reading .now) (g .used .now) (c .before .before .before .before .before .before .before .before .before .before .before .loop .used) (c .before .before .before .before .before .before .before .before .before .before .before .loop .i) (c .before .before .before .before .before .before .before .before .before .before .before .loop .inv .1) (c .before .before .before .before .before .before .before .gap-end .result) new (inside (c .before .before .before .before .before .before .before .before .before .before)) (is-missing (c .before .before .before .before .before .before .before .before))
-          (c .before .before .before .before .before .before .before .gap-end .ensures .0)
-          (subst (λ (x : ℕ). Continued (c .before .before .before .before .before .before .before .before .before .before .before .loop .i) (c .before .before .before .before .before .before .before .gap-end .result) (λ k. x) (c .before .before .before .before .before .before .before .before .before .before .before .loop .used) new)
-          (c .before .before .before .held .ensures ∙ ap heldFor (c .before .before .before .before .before .replace-gap .ensures)) (c .before .before .spread .ensures)),
+      filling-gap (g .reading .now) (g .used .now) (loop·loop-again c .loop .used) (loop·loop-again c .loop .i) (loop·loop-again c .loop .inv .1)
+          (gap-end·loop-again c .gap-end .result) new (inside (loop-test·loop-again c)) (is-missing (if1·loop-again c))
+          (gap-end·loop-again c .gap-end .ensures .0)
+          (subst (λ (x : ℕ). Continued (loop·loop-again c .loop .i) (gap-end·loop-again c .gap-end .result) (λ k. x) (loop·loop-again c .loop .used) new)
+          (held·loop-again c .held .ensures ∙ ap heldFor (replace-gap·loop-again c .replace-gap .ensures)) (spread·loop-again c .spread .ensures)),
     )
 
 next-requires : tie.Need-next-requires Inv-loop μ-loop
 next-requires c κs = (
-  inside (c .before .before),
-  c .before .before .before .loop .inv .1 .few,
-  ap not (measured-is (c .before .before .before .before .before .before .args .reading .now) (c .before .before .before .loop .i) (inside (c .before .before)) (c .if1 .left)),
+  inside (loop-test·next-requires c),
+  loop·next-requires c .loop .inv .1 .few,
+  ap not (measured-is (start·next-requires c .args .reading .now) (loop·next-requires c .loop .i) (inside (loop-test·next-requires c)) (c .if1 .left)),
 )
 
 loop-less-2 : tie.Need-loop-less-2 Inv-loop μ-loop
-loop-less-2 c = omega (arith, inside (c .before .before .before), c .next .ensures .0)
+loop-less-2 c = omega (arith, inside (loop-test·loop-less-2 c), c .next .ensures .0)
 
 loop-again-2 : tie.Need-loop-again-2 Inv-loop μ-loop
 loop-again-2 c =
-    let g = c .before .before .before .before .before .before .before .args in
-    let r = c .next .ensures in
-    (refl, filling-next (g .reading .now) (g .used .now) (c .before .before .before .before .loop .used) (c .before .before .before .before .loop .i) (c .next .result) (c .before .before .before .before .loop .inv .1) (r .0) (r .1) (r .2))
+    let g = start·loop-again-2 c .args in
+    let r = c .next .ensures in (
+      refl,
+      filling-next (g .reading .now) (g .used .now) (loop·loop-again-2 c .loop .used) (loop·loop-again-2 c .loop .i) (c .next .result)
+          (loop·loop-again-2 c .loop .inv .1) (r .0) (r .1) (r .2),
+    )
 
 same-length : tie.Need-same-length Inv-loop μ-loop
-same-length c = let g = c .before .before .before .before .args in length-used (g .reading .now) (g .used .now) (c .before .loop .used) (c .before .loop .i) (c .before .loop .inv .1)
+same-length c =
+    let g = start·same-length c .args in length-used (g .reading .now) (g .used .now) (loop·same-length c .loop .used) (loop·same-length c .loop .i)
+    (loop·same-length c .loop .inv .1)
 
 returns : tie.Need-returns Inv-loop μ-loop
 returns c =
-    let g = c .before .before .before .before .args in
-    filling-done (g .reading .now) (g .used .now) (c .before .loop .used) (c .before .loop .i) (c .before .loop .inv .1) (c .loop-test .left)
+    let g = start·returns c .args in
+    filling-done (g .reading .now) (g .used .now) (loop·returns c .loop .used) (loop·returns c .loop .i) (loop·returns c .loop .inv .1) (c .loop-test .left)
 
 pub fill-gaps-spec : {M : Type 1} → statement M
 fill-gaps-spec =

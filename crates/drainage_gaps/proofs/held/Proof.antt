@@ -14,19 +14,15 @@ use Rattle.drainage_gaps.proofs.held.Reads as reads
 use Rattle.drainage_gaps.proofs.held.Lts as lts
 use Rattle.drainage_gaps.proofs.exclusion.Reads as exclusion-reads
 
--- src/lib.rt:69:28
 enum-known-answer : tie.Need-enum-known-answer
 enum-known-answer c = search needs
 
--- src/lib.rt:70:9
 exclusion-requires : tie.Need-exclusion-requires
 exclusion-requires c κs = search needs
 
--- src/lib.rt:70:9
 returns : tie.Need-returns
 returns c = c .exclusion .ensures
 
--- src/lib.rt:66:1
 returns-2 : tie.Need-returns-2
 unfolding heldFor
 returns-2 c = sym (ap heldFor (c .before .answer .given .1))

@@ -4,6 +4,8 @@ use borrow.Author.Needs.{needs}
 use Rattle.drainage_gaps.proofs.Filling.{next-one, next-16}
 use Rattle.drainage_gaps.proofs.next.Statement.{statement}
 use Rattle.drainage_gaps.proofs.next.Tie as tie
+mod PlaceNames
+use PlaceNames.*
 
 add-if1 : tie.Need-add-if1
 add-if1 c = search needs
@@ -16,16 +18,16 @@ add-result c = search needs
 
 returns : tie.Need-returns
 returns c =
-    let g = c .before .before .before .before .args in
-    (omega arith, omega (arith, c .before .before .if1 .taken), next-16 (g .reading .now) (g .i) (sym (c .before .measured .ensures) ∙ c .if2 .taken))
+    let g = start·returns c .args in
+    (omega arith, omega (arith, if1·returns c .if1 .taken), next-16 (g .reading .now) (g .i) (sym (measured·returns c .measured .ensures) ∙ c .if2 .taken))
 
 add-result-2 : tie.Need-add-result-2
 add-result-2 c = search needs
 
 returns-2 : tie.Need-returns-2
 returns-2 c =
-    let g = c .before .before .args in
-    (omega arith, omega (arith, c .before .before .pre .0), next-one (g .reading .now) (g .i) (c .before .before .pre .2))
+    let g = start·returns-2 c .args in
+    (omega arith, omega (arith, start·returns-2 c .pre .0), next-one (g .reading .now) (g .i) (start·returns-2 c .pre .2))
 
 pub next-spec : {M : Type 1} → statement M
 next-spec =

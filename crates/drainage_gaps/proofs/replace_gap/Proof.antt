@@ -7,30 +7,32 @@ use Rattle.drainage_runs.specs.Runs.{whole}
 use Rattle.drainage_gaps.proofs.Laws.{replaced-long, replaced-not, Ready, ready-before, ready-after, ready-windows, ready-16, ready-mean, ready-limit}
 use Rattle.drainage_gaps.proofs.replace_gap.Statement.{statement}
 use Rattle.drainage_gaps.proofs.replace_gap.Tie as tie
+mod PlaceNames
+use PlaceNames.*
 
 -- the blocks of 16 that are looked at make up the windows
 looked : (c : tie.After-windows-whole)
     → c .windows-whole .result
-    ≡ whole (c .before .before .before .before .before .args .reading .now) (c .before .before .before .before .before .args .a)
-    (c .before .before .before .before .before .args .e) (c .before .width .result)
+    ≡ whole (start·looked c .args .reading .now) (start·looked c .args .a)
+    (start·looked c .args .e) (width·looked c .width .result)
 looked c =
-    let g = c .before .before .before .before .before .args in
-    c .windows-whole .ensures ∙ ap (whole (g .reading .now) (g .a) (g .e)) (c .before .width .ensures .3)
+    let g = start·looked c .args in
+    c .windows-whole .ensures ∙ ap (whole (g .reading .now) (g .a) (g .e)) (width·looked c .width .ensures .3)
 
 -- what is known once they are found whole
 ready : (c : tie.Else2)
-    → Ready (c .before .before .before .before .before .before .args .reading .now) (c .before .before .before .before .before .before .args .used .now)
-    (c .before .before .before .before .before .before .args .a) (c .before .before .before .before .before .before .args .e) (c .before .before .width .result)
+    → Ready (start·ready c .args .reading .now) (start·ready c .args .used .now)
+    (start·ready c .args .a) (start·ready c .args .e) (width·ready c .width .result)
 ready c =
     record {
-      order = c .before .before .before .before .before .before .pre .0;
-      inside = c .before .before .before .before .before .before .pre .1;
-      goes = c .before .before .before .before .before .before .pre .3;
-      short = omega (arith, c .before .before .before .if1 .left);
-      is-width = c .before .before .width .ensures .0;
-      few = c .before .before .width .ensures .1;
-      some = c .before .before .width .ensures .2;
-      is-whole = sym (looked (c .before)) ∙ not-false _ (c .if2 .left);
+      order = start·ready c .pre .0;
+      inside = start·ready c .pre .1;
+      goes = start·ready c .pre .3;
+      short = omega (arith, if1·ready c .if1 .left);
+      is-width = width·ready c .width .ensures .0;
+      few = width·ready c .width .ensures .1;
+      some = width·ready c .width .ensures .2;
+      is-whole = sym (looked (windows-whole·ready c)) ∙ not-false _ (c .if2 .left);
     }
 
 sub-missing : tie.Need-sub-missing
@@ -38,7 +40,7 @@ sub-missing c = search needs
 
 returns : tie.Need-returns
 returns c =
-    let g = c .before .before .before .args in
+    let g = start·returns c .args in
     replaced-long (g .reading .now) (g .used .now) (g .a) (g .e) (omega (arith, c .if1 .taken))
 
 width-requires : tie.Need-width-requires
@@ -46,14 +48,14 @@ width-requires c κs = search needs
 
 windows-whole-requires : tie.Need-windows-whole-requires
 windows-whole-requires c κs =
-    let p = c .before .before .before .before .pre in
+    let p = start·windows-whole-requires c .pre in
     (omega (arith, p .1, p .2, c .width .ensures .1, c .width .ensures .3), omega (arith, p .0), p .1)
 
 returns-2 : tie.Need-returns-2
 returns-2 c =
-    let g = c .before .before .before .before .before .before .args in
-    replaced-not (g .reading .now) (g .used .now) (g .a) (g .e) (omega (arith, c .before .before .before .if1 .left))
-    (sym (looked (c .before) ∙ ap (whole (g .reading .now) (g .a) (g .e)) (c .before .before .width .ensures .0)) ∙ not-true _ (c .if2 .taken))
+    let g = start·returns-2 c .args in
+    replaced-not (g .reading .now) (g .used .now) (g .a) (g .e) (omega (arith, if1·returns-2 c .if1 .left))
+    (sym (looked (windows-whole·returns-2 c) ∙ ap (whole (g .reading .now) (g .a) (g .e)) (width·returns-2 c .width .ensures .0)) ∙ not-true _ (c .if2 .taken))
 
 sub-first : tie.Need-sub-first
 sub-first c = ready-before (ready c)
@@ -83,16 +85,16 @@ part-mean-of-32-start-2 : tie.Need-part-mean-of-32-start-2
 part-mean-of-32-start-2 c = search needs
 
 part-mean-of-32-end-2 : tie.Need-part-mean-of-32-end-2
-part-mean-of-32-end-2 c = omega (arith, ready-after (ready (c .before .before)), c .before .before .before .before .before .before .before .before .pre .3 .same-length)
+part-mean-of-32-end-2 c = omega (arith, ready-after (ready (if2·part-mean-of-32-end-2 c)), start·part-mean-of-32-end-2 c .pre .3 .same-length)
 
 mean-of-32-requires : tie.Need-mean-of-32-requires
-mean-of-32-requires c κs = ready-16 (ready (c .before .before .before)) (omega (arith, c .before .before .if3 .taken))
+mean-of-32-requires c κs = ready-16 (ready (if2·mean-of-32-requires c)) (omega (arith, if3·mean-of-32-requires c .if3 .taken))
 
 cast-t24 : tie.Need-cast-t24
 cast-t24 c = record { fits = omega (arith, c .mean-of-32 .ensures .1) }
 
 returns-3 : tie.Need-returns-3
-returns-3 c = ready-mean (ready (c .before .before .before .before)) (omega (arith, c .before .before .before .if3 .taken)) (c .mean-of-32 .ensures .0)
+returns-3 c = ready-mean (ready (if2·returns-3 c)) (omega (arith, if3·returns-3 c .if3 .taken)) (c .mean-of-32 .ensures .0)
 
 mul-tally-of : tie.Need-mul-tally-of
 mul-tally-of c = search needs
@@ -116,22 +118,29 @@ part-tally-of-start-2 : tie.Need-part-tally-of-start-2
 part-tally-of-start-2 c = search needs
 
 part-tally-of-end-2 : tie.Need-part-tally-of-end-2
-part-tally-of-end-2 c = omega (arith, ready-after (ready (c .before .before)), c .before .before .before .before .before .before .before .before .pre .3 .same-length)
+part-tally-of-end-2 c = omega (arith, ready-after (ready (if2·part-tally-of-end-2 c)), start·part-tally-of-end-2 c .pre .3 .same-length)
 
 tally-of-requires : tie.Need-tally-of-requires
-tally-of-requires c κs = ready-windows (ready (c .before .before .before))
+tally-of-requires c κs = ready-windows (ready (if2·tally-of-requires c))
 
 limit-requires : tie.Need-limit-requires
-limit-requires c κs = (c .tally-of .ensures .1, omega (arith, c .before .before .before .if3 .left))
+limit-requires c κs = (c .tally-of .ensures .1, omega (arith, if3·limit-requires c .if3 .left))
 
 cast-t35 : tie.Need-cast-t35
 cast-t35 c =
     record {
-      fits = omega (arith, ready-limit (ready (c .before .before .before .before .before)) (c .limit .result) (c .before .tally-of .result) (c .before .tally-of .ensures .0) (c .limit .ensures) .1);
+      fits =
+          omega (
+            arith,
+            ready-limit (ready (if2·cast-t35 c)) (c .limit .result) (tally-of·cast-t35 c .tally-of .result) (tally-of·cast-t35 c .tally-of .ensures .0)
+                (c .limit .ensures) .1,
+          );
     }
 
 returns-4 : tie.Need-returns-4
-returns-4 c = ready-limit (ready (c .before .before .before .before .before)) (c .limit .result) (c .before .tally-of .result) (c .before .tally-of .ensures .0) (c .limit .ensures) .0
+returns-4 c =
+    ready-limit (ready (if2·returns-4 c)) (c .limit .result) (tally-of·returns-4 c .tally-of .result) (tally-of·returns-4 c .tally-of .ensures .0)
+    (c .limit .ensures) .0
 
 pub replace-gap-spec : {M : Type 1} → statement M
 replace-gap-spec =

@@ -16,37 +16,32 @@ Inv-loop used₀ a e v i₀ used i = (a ≤ i) × (i ≤ e) × (e ≤ length use
 abbrev μ-loop : tie.MeasureT-loop
 μ-loop used₀ a e v i₀ used i = e - i
 
--- src/lib.rt:91:5
 loop-holds : tie.Need-loop-holds Inv-loop μ-loop
 loop-holds c = (omega arith, omega arith, omega arith, continued-none _ _ _)
 
--- src/lib.rt:92:9
 mul-used : tie.Need-mul-used Inv-loop μ-loop
 mul-used c = search needs
 
--- src/lib.rt:92:9
 slice-write-used : tie.Need-slice-write-used Inv-loop μ-loop
 slice-write-used c = let v = c .before .loop .inv in omega (arith, v .3 .same-length)
 
--- src/lib.rt:93:9
 add-i : tie.Need-add-i Inv-loop μ-loop
 add-i c = search needs
 
--- src/lib.rt:91:5
 loop-less : tie.Need-loop-less Inv-loop μ-loop
 loop-less c = search needs
 
--- src/lib.rt:91:5
 loop-again : tie.Need-loop-again Inv-loop μ-loop
 loop-again c = let v = c .before .loop .inv in (omega arith, omega arith, v .2, continued-more _ _ _ _ _ (v .0) (omega (arith, v .2)) (v .3))
 
--- src/lib.rt:86:1
 same-length : tie.Need-same-length Inv-loop μ-loop
 same-length c = search needs
 
--- src/lib.rt:86:1
 returns : tie.Need-returns Inv-loop μ-loop
-returns c = let v = c .before .loop .inv in let h : c .before .loop .i ≡ c .before .before .args .e = omega (arith, c .loop-test .left) in subst (λ (k : ℕ). Continued (c .before .before .args .a) k (λ j. c .before .before .args .v) (c .before .before .args .used .now) (c .before .loop .used)) h (v .3)
+returns c =
+    let v = c .before .loop .inv in let h : c .before .loop .i ≡ c .before .before .args .e = omega (arith, c .loop-test .left) in subst
+    (λ (k : ℕ). Continued (c .before .before .args .a) k (λ j. c .before .before .args .v) (c .before .before .args .used .now) (c .before .loop .used)) h
+    (v .3)
 
 pub spread-spec : {M : Type 1} → statement M
 spread-spec =

@@ -6,13 +6,18 @@ use lib.ListN.{getD}
 use mir.Facts.{toZ-ofZ}
 use Rattle.columns.specs.Series.{seriesOf, seriesNow}
 use Rattle.drainage_outcomes.specs.Outcomes.{entryAt, Held}
-use Rattle.drainage_outcomes.proofs.Pass.{Going, reads-ready, reads-entry, measured-inside, measured-entry, going-none, going-few, going-more, going-kept, methane-room, slot-fits, going-all, length-rows, inside-series, inside-rows, index-fits, next-fits, turns-less, going-slot, zeros}
+use Rattle.drainage_outcomes.proofs.Pass.{Going, reads-ready, reads-entry, measured-inside, measured-entry, going-none, going-few, going-more}
+use Rattle.drainage_outcomes.proofs.Pass.{going-kept, methane-room, slot-fits, going-all, length-rows, inside-series, inside-rows, index-fits}
+use Rattle.drainage_outcomes.proofs.Pass.{next-fits, turns-less, going-slot, zeros}
 use Rattle.drainage_outcomes.proofs.finish.Statement.{statement}
 use Rattle.drainage_outcomes.proofs.finish.Tie as tie
+mod PlaceNames
+use PlaceNames.*
 
 abbrev Inv-loop : tie.InvT-loop
 Inv-loop flow content temp press status outcomes₀ flow-used₀ content-used₀ n counts₀ methane₀ i₀ outcomes flow-used content-used counts methane i =
-    Going (record { series = seriesOf flow content temp press status; flow-held = flow-used₀; content-held = content-used₀ }) n outcomes₀ outcomes flow-used content-used counts methane i
+    Going (record { series = seriesOf flow content temp press status; flow-held = flow-used₀; content-held = content-used₀ }) n outcomes₀ outcomes flow-used
+    content-used counts methane i
 
 abbrev μ-loop : tie.MeasureT-loop
 μ-loop flow content temp press status outcomes₀ flow-used₀ content-used₀ n counts₀ methane₀ i₀ outcomes flow-used content-used counts methane i =
@@ -20,11 +25,11 @@ abbrev μ-loop : tie.MeasureT-loop
 
 -- the turn of the loop in which an interval is tested, and the device's rows
 abbrev turn : tie.After-all-measured Inv-loop μ-loop → tie.In-loop Inv-loop μ-loop
-turn c = c .before .before .before .before .before .before .before .before
+turn c = loop-test·turn c
 
 abbrev rows : tie.In-loop Inv-loop μ-loop → Held
 rows c =
-    let a = c .before .before .before .before .before .before .before .before .before .args in
+    let a = start·rows c .args in
     record {
       series = seriesNow (a .flow) (a .content) (a .temp) (a .press) (a .status);
       flow-held = a .flow-used .now;
@@ -32,7 +37,7 @@ rows c =
     }
 
 -- the entry where everything is measured, and that which is given elsewhere
-whole : (c : tie.After-methane-litres Inv-loop μ-loop) → let t = turn (c .before .before) in
+whole : (c : tie.After-methane-litres Inv-loop μ-loop) → let t = turn (all-measured·whole c) in
     record {
       outcome = 0;
       flow = getD (t .before .loop .flow-used) (t .before .loop .i) 0;
@@ -41,141 +46,147 @@ whole : (c : tie.After-methane-litres Inv-loop μ-loop) → let t = turn (c .bef
     }
     ≡ entryAt (rows t) (t .before .loop .i)
 whole c =
-    measured-entry (c .before .before .before .before .before .before .before .before .before .before .before .loop .inv) (c .before .before .before .before .before .before .before .before .before .before .loop-test .taken) _ (toZ-ofZ (record { sfits = c .before .before .before .before .before .before .before .t .given }))
-    _ (c .before .before .all-measured .ensures) (c .before .if1 .taken) _ (c .methane-litres .ensures .0)
+    measured-entry (loop·whole c .loop .inv) (loop-test·whole c .loop-test .taken) _ (toZ-ofZ (record { sfits = t·whole c .t .given }))
+    _ (all-measured·whole c .all-measured .ensures) (if1·whole c .if1 .taken) _ (c .methane-litres .ensures .0)
 
-got : (c : tie.After-settle Inv-loop μ-loop) → let t = turn (c .before .before) in c .settle .result ≡ entryAt (rows t) (t .before .loop .i)
+got : (c : tie.After-settle Inv-loop μ-loop) → let t = turn (all-measured·got c) in c .settle .result ≡ entryAt (rows t) (t .before .loop .i)
 got c =
-    reads-entry (c .before .before .before .before .before .before .before .before .before .before .before .loop .inv) (c .before .before .before .before .before .before .before .before .before .before .loop-test .taken) _ (toZ-ofZ (record { sfits = c .before .before .before .before .before .before .before .t .given })) _ (c .settle .ensures)
+    reads-entry (loop·got c .loop .inv) (loop-test·got c .loop-test .taken) _ (toZ-ofZ (record { sfits = t·got c .t .given })) _ (c .settle .ensures)
 
 loop-holds : tie.Need-loop-holds Inv-loop μ-loop
-loop-holds c = going-none _ _ _ _ (c .before .before .before .before .before .before .before .pre .0) (c .before .before .before .before .before .before .before .pre .1) refl (λ j h. zeros 10 j)
+loop-holds c = going-none _ _ _ _ (start·loop-holds c .pre .0) (start·loop-holds c .pre .1) refl (λ j h. zeros 10 j)
 
 mul-f : tie.Need-mul-f Inv-loop μ-loop
-mul-f c = index-fits (c .before .loop .inv) (c .loop-test .taken) .0
+mul-f c = index-fits (loop·mul-f c .loop .inv) (c .loop-test .taken) .0
 
 shared-slice-read-f : tie.Need-shared-slice-read-f Inv-loop μ-loop
-shared-slice-read-f c = inside-series (c .before .before .loop .inv) (c .before .loop-test .taken) .flow
+shared-slice-read-f c = inside-series (loop·shared-slice-read-f c .loop .inv) (loop-test·shared-slice-read-f c .loop-test .taken) .flow
 
 mul-c : tie.Need-mul-c Inv-loop μ-loop
-mul-c c = index-fits (c .before .before .loop .inv) (c .before .loop-test .taken) .0
+mul-c c = index-fits (loop·mul-c c .loop .inv) (loop-test·mul-c c .loop-test .taken) .0
 
 shared-slice-read-c : tie.Need-shared-slice-read-c Inv-loop μ-loop
-shared-slice-read-c c = inside-series (c .before .before .before .loop .inv) (c .before .before .loop-test .taken) .content
+shared-slice-read-c c = inside-series (loop·shared-slice-read-c c .loop .inv) (loop-test·shared-slice-read-c c .loop-test .taken) .content
 
 mul-t : tie.Need-mul-t Inv-loop μ-loop
-mul-t c = index-fits (c .before .before .before .loop .inv) (c .before .before .loop-test .taken) .0
+mul-t c = index-fits (loop·mul-t c .loop .inv) (loop-test·mul-t c .loop-test .taken) .0
 
 shared-slice-copy-out-t : tie.Need-shared-slice-copy-out-t Inv-loop μ-loop
-shared-slice-copy-out-t c = inside-series (c .before .before .before .loop .inv) (c .before .before .loop-test .taken) .temp
+shared-slice-copy-out-t c = inside-series (loop·shared-slice-copy-out-t c .loop .inv) (loop-test·shared-slice-copy-out-t c .loop-test .taken) .temp
 
 mul-p : tie.Need-mul-p Inv-loop μ-loop
-mul-p c = index-fits (c .before .before .before .before .loop .inv) (c .before .before .before .loop-test .taken) .1
+mul-p c = index-fits (loop·mul-p c .loop .inv) (loop-test·mul-p c .loop-test .taken) .1
 
 shared-slice-read-p : tie.Need-shared-slice-read-p Inv-loop μ-loop
-shared-slice-read-p c = inside-series (c .before .before .before .before .before .loop .inv) (c .before .before .before .before .loop-test .taken) .press
+shared-slice-read-p c = inside-series (loop·shared-slice-read-p c .loop .inv) (loop-test·shared-slice-read-p c .loop-test .taken) .press
 
 shared-slice-read-code : tie.Need-shared-slice-read-code Inv-loop μ-loop
-shared-slice-read-code c = inside-series (c .before .before .before .before .before .before .loop .inv) (c .before .before .before .before .before .loop-test .taken) .status
+shared-slice-read-code c = inside-series (loop·shared-slice-read-code c .loop .inv) (loop-test·shared-slice-read-code c .loop-test .taken) .status
 
 mul-f-held : tie.Need-mul-f-held Inv-loop μ-loop
-mul-f-held c = index-fits (c .before .before .before .before .before .before .loop .inv) (c .before .before .before .before .before .loop-test .taken) .0
+mul-f-held c = index-fits (loop·mul-f-held c .loop .inv) (loop-test·mul-f-held c .loop-test .taken) .0
 
 slice-read-f-held : tie.Need-slice-read-f-held Inv-loop μ-loop
-slice-read-f-held c = inside-rows (c .before .before .before .before .before .before .before .loop .inv) (c .before .before .before .before .before .before .loop-test .taken) .1
+slice-read-f-held c = inside-rows (loop·slice-read-f-held c .loop .inv) (loop-test·slice-read-f-held c .loop-test .taken) .1
 
 mul-c-held : tie.Need-mul-c-held Inv-loop μ-loop
-mul-c-held c = index-fits (c .before .before .before .before .before .before .before .loop .inv) (c .before .before .before .before .before .before .loop-test .taken) .0
+mul-c-held c = index-fits (loop·mul-c-held c .loop .inv) (loop-test·mul-c-held c .loop-test .taken) .0
 
 slice-read-c-held : tie.Need-slice-read-c-held Inv-loop μ-loop
-slice-read-c-held c = inside-rows (c .before .before .before .before .before .before .before .before .loop .inv) (c .before .before .before .before .before .before .before .loop-test .taken) .2
+slice-read-c-held c = inside-rows (loop·slice-read-c-held c .loop .inv) (loop-test·slice-read-c-held c .loop-test .taken) .2
 
 all-measured-requires : tie.Need-all-measured-requires Inv-loop μ-loop
 all-measured-requires c κs = tt
 
 methane-litres-requires : tie.Need-methane-litres-requires Inv-loop μ-loop
-methane-litres-requires c κs = measured-inside (c .before .before .before .before .before .before .before .before .before .before .loop .inv) (c .before .before .before .before .before .before .before .before .before .loop-test .taken) _ (toZ-ofZ (record { sfits = c .before .before .before .before .before .before .t .given })) _ (c .before .all-measured .ensures) (c .if1 .taken)
+methane-litres-requires c κs =
+    measured-inside (loop·methane-litres-requires c .loop .inv) (loop-test·methane-litres-requires c .loop-test .taken) _
+    (toZ-ofZ (record { sfits = t·methane-litres-requires c .t .given })) _ (all-measured·methane-litres-requires c .all-measured .ensures) (c .if1 .taken)
 
 slice-write-outcomes : tie.Need-slice-write-outcomes Inv-loop μ-loop
-slice-write-outcomes c = omega (arith, inside-rows (c .before .before .before .before .before .before .before .before .before .before .before .loop .inv) (c .before .before .before .before .before .before .before .before .before .before .loop-test .taken) .0)
+slice-write-outcomes c = omega (arith, inside-rows (loop·slice-write-outcomes c .loop .inv) (loop-test·slice-write-outcomes c .loop-test .taken) .0)
 
 array-read-counts : tie.Need-array-read-counts Inv-loop μ-loop
 array-read-counts c = lit< tt
 
 add-counts : tie.Need-add-counts Inv-loop μ-loop
-add-counts c = slot-fits (c .before .before .before .before .before .before .before .before .before .before .before .loop .inv) _ _ (lit< tt) (lit< tt)
+add-counts c = slot-fits (loop·add-counts c .loop .inv) _ _ (lit< tt) (lit< tt)
 
 array-write-counts : tie.Need-array-write-counts Inv-loop μ-loop
 array-write-counts c = lit< tt
 
 add-methane : tie.Need-add-methane Inv-loop μ-loop
-add-methane c = methane-room (c .before .before .before .before .before .before .before .before .before .before .before .loop .inv) (c .before .before .before .before .before .before .before .before .before .before .loop-test .taken) _ (whole c)
+add-methane c = methane-room (loop·add-methane c .loop .inv) (loop-test·add-methane c .loop-test .taken) _ (whole c)
 
 add-i : tie.Need-add-i Inv-loop μ-loop
-add-i c = next-fits (c .before .before .before .before .before .before .before .before .before .before .before .loop .inv) (c .before .before .before .before .before .before .before .before .before .before .loop-test .taken)
+add-i c = next-fits (loop·add-i c .loop .inv) (loop-test·add-i c .loop-test .taken)
 
 loop-less : tie.Need-loop-less Inv-loop μ-loop
-loop-less c = turns-less (c .before .before .before .before .before .before .before .before .before .before .before .loop .inv) (c .before .before .before .before .before .before .before .before .before .before .loop-test .taken)
+loop-less c = turns-less (loop·loop-less c .loop .inv) (loop-test·loop-less c .loop-test .taken)
 
 loop-again : tie.Need-loop-again Inv-loop μ-loop
-loop-again c = going-kept (c .before .before .before .before .before .before .before .before .before .before .before .loop .inv) (c .before .before .before .before .before .before .before .before .before .before .loop-test .taken) _ (whole c) refl refl
+loop-again c = going-kept (loop·loop-again c .loop .inv) (loop-test·loop-again c .loop-test .taken) _ (whole c) refl refl
 
 settle-requires : tie.Need-settle-requires Inv-loop μ-loop
-settle-requires c κs = reads-ready (c .before .before .before .before .before .before .before .before .before .before .loop .inv) (c .before .before .before .before .before .before .before .before .before .loop-test .taken) _ (toZ-ofZ (record { sfits = c .before .before .before .before .before .before .t .given }))
+settle-requires c κs =
+    reads-ready (loop·settle-requires c .loop .inv) (loop-test·settle-requires c .loop-test .taken) _
+    (toZ-ofZ (record { sfits = t·settle-requires c .t .given }))
 
 slice-write-outcomes-2 : tie.Need-slice-write-outcomes-2 Inv-loop μ-loop
-slice-write-outcomes-2 c = omega (arith, inside-rows (c .before .before .before .before .before .before .before .before .before .before .before .loop .inv) (c .before .before .before .before .before .before .before .before .before .before .loop-test .taken) .0)
+slice-write-outcomes-2 c = omega (arith, inside-rows (loop·slice-write-outcomes-2 c .loop .inv) (loop-test·slice-write-outcomes-2 c .loop-test .taken) .0)
 
 mul-flow-used : tie.Need-mul-flow-used Inv-loop μ-loop
-mul-flow-used c = index-fits (c .before .before .before .before .before .before .before .before .before .before .before .loop .inv) (c .before .before .before .before .before .before .before .before .before .before .loop-test .taken) .0
+mul-flow-used c = index-fits (loop·mul-flow-used c .loop .inv) (loop-test·mul-flow-used c .loop-test .taken) .0
 
 slice-write-flow-used : tie.Need-slice-write-flow-used Inv-loop μ-loop
-slice-write-flow-used c = inside-rows (c .before .before .before .before .before .before .before .before .before .before .before .loop .inv) (c .before .before .before .before .before .before .before .before .before .before .loop-test .taken) .1
+slice-write-flow-used c = inside-rows (loop·slice-write-flow-used c .loop .inv) (loop-test·slice-write-flow-used c .loop-test .taken) .1
 
 mul-content-used : tie.Need-mul-content-used Inv-loop μ-loop
-mul-content-used c = index-fits (c .before .before .before .before .before .before .before .before .before .before .before .loop .inv) (c .before .before .before .before .before .before .before .before .before .before .loop-test .taken) .0
+mul-content-used c = index-fits (loop·mul-content-used c .loop .inv) (loop-test·mul-content-used c .loop-test .taken) .0
 
 slice-write-content-used : tie.Need-slice-write-content-used Inv-loop μ-loop
-slice-write-content-used c = inside-rows (c .before .before .before .before .before .before .before .before .before .before .before .loop .inv) (c .before .before .before .before .before .before .before .before .before .before .loop-test .taken) .2
+slice-write-content-used c = inside-rows (loop·slice-write-content-used c .loop .inv) (loop-test·slice-write-content-used c .loop-test .taken) .2
 
 cast-k : tie.Need-cast-k Inv-loop μ-loop
-cast-k c = going-slot (c .before .before .before .before .before .before .before .before .before .before .before .loop .inv) (c .before .before .before .before .before .before .before .before .before .before .loop-test .taken) _ (got c) .0
+cast-k c = going-slot (loop·cast-k c .loop .inv) (loop-test·cast-k c .loop-test .taken) _ (got c) .0
 
 mul-counts : tie.Need-mul-counts Inv-loop μ-loop
-mul-counts c = going-slot (c .before .before .before .before .before .before .before .before .before .before .before .loop .inv) (c .before .before .before .before .before .before .before .before .before .before .loop-test .taken) _ (got c) .1
+mul-counts c = going-slot (loop·mul-counts c .loop .inv) (loop-test·mul-counts c .loop-test .taken) _ (got c) .1
 
 array-read-counts-2 : tie.Need-array-read-counts-2 Inv-loop μ-loop
-array-read-counts-2 c = going-few (c .before .before .before .before .before .before .before .before .before .before .before .loop .inv) (c .before .before .before .before .before .before .before .before .before .before .loop-test .taken) _ (got c)
+array-read-counts-2 c = going-few (loop·array-read-counts-2 c .loop .inv) (loop-test·array-read-counts-2 c .loop-test .taken) _ (got c)
 
 add-counts-2 : tie.Need-add-counts-2 Inv-loop μ-loop
-add-counts-2 c = slot-fits (c .before .before .before .before .before .before .before .before .before .before .before .loop .inv) (c .settle .result .outcome) _ (going-few (c .before .before .before .before .before .before .before .before .before .before .before .loop .inv) (c .before .before .before .before .before .before .before .before .before .before .loop-test .taken) _ (got c)) (lit< tt)
+add-counts-2 c =
+    slot-fits (loop·add-counts-2 c .loop .inv) (c .settle .result .outcome) _
+    (going-few (loop·add-counts-2 c .loop .inv) (loop-test·add-counts-2 c .loop-test .taken) _ (got c)) (lit< tt)
 
 array-write-counts-2 : tie.Need-array-write-counts-2 Inv-loop μ-loop
-array-write-counts-2 c = going-few (c .before .before .before .before .before .before .before .before .before .before .before .loop .inv) (c .before .before .before .before .before .before .before .before .before .before .loop-test .taken) _ (got c)
+array-write-counts-2 c = going-few (loop·array-write-counts-2 c .loop .inv) (loop-test·array-write-counts-2 c .loop-test .taken) _ (got c)
 
 add-methane-2 : tie.Need-add-methane-2 Inv-loop μ-loop
-add-methane-2 c = methane-room (c .before .before .before .before .before .before .before .before .before .before .before .before .loop .inv) (c .before .before .before .before .before .before .before .before .before .before .before .loop-test .taken) _ (got (c .before))
+add-methane-2 c = methane-room (loop·add-methane-2 c .loop .inv) (loop-test·add-methane-2 c .loop-test .taken) _ (got (settle·add-methane-2 c))
 
 add-i-2 : tie.Need-add-i-2 Inv-loop μ-loop
-add-i-2 c = next-fits (c .before .before .before .before .before .before .before .before .before .before .before .before .loop .inv) (c .before .before .before .before .before .before .before .before .before .before .before .loop-test .taken)
+add-i-2 c = next-fits (loop·add-i-2 c .loop .inv) (loop-test·add-i-2 c .loop-test .taken)
 
 loop-less-2 : tie.Need-loop-less-2 Inv-loop μ-loop
-loop-less-2 c = turns-less (c .before .before .before .before .before .before .before .before .before .before .before .before .loop .inv) (c .before .before .before .before .before .before .before .before .before .before .before .loop-test .taken)
+loop-less-2 c = turns-less (loop·loop-less-2 c .loop .inv) (loop-test·loop-less-2 c .loop-test .taken)
 
 loop-again-2 : tie.Need-loop-again-2 Inv-loop μ-loop
-loop-again-2 c = going-more (c .before .before .before .before .before .before .before .before .before .before .before .before .loop .inv) (c .before .before .before .before .before .before .before .before .before .before .before .loop-test .taken) _ (got (c .before))
+loop-again-2 c = going-more (loop·loop-again-2 c .loop .inv) (loop-test·loop-again-2 c .loop-test .taken) _ (got (settle·loop-again-2 c))
 
 same-length : tie.Need-same-length Inv-loop μ-loop
-same-length c = length-rows (c .before .loop .inv) .0 ∙ sym (c .before .before .before .before .before .before .before .before .before .pre .1)
+same-length c = length-rows (loop·same-length c .loop .inv) .0 ∙ sym (start·same-length c .pre .1)
 
 same-length-2 : tie.Need-same-length-2 Inv-loop μ-loop
-same-length-2 c = length-rows (c .before .loop .inv) .1 ∙ sym (c .before .loop .inv .ready .flow-rows)
+same-length-2 c = length-rows (loop·same-length-2 c .loop .inv) .1 ∙ sym (loop·same-length-2 c .loop .inv .ready .flow-rows)
 
 same-length-3 : tie.Need-same-length-3 Inv-loop μ-loop
-same-length-3 c = length-rows (c .before .loop .inv) .2 ∙ sym (c .before .loop .inv .ready .content-rows)
+same-length-3 c = length-rows (loop·same-length-3 c .loop .inv) .2 ∙ sym (loop·same-length-3 c .loop .inv .ready .content-rows)
 
 returns : tie.Need-returns Inv-loop μ-loop
-returns c = going-all (c .before .loop .inv) (c .loop-test .left)
+returns c = going-all (loop·returns c .loop .inv) (c .loop-test .left)
 
 pub finish-spec : {M : Type 1} → statement M
 finish-spec =

@@ -11,15 +11,18 @@ use Rattle.drainage_outcomes.specs.Outcomes.{heldOutcome, outcomeOf}
 use Rattle.drainage_outcomes.proofs.Laws.{outcomeFor, counted-inside, counted-entry, excluded-entry}
 use Rattle.drainage_outcomes.proofs.settle.Statement.{statement}
 use Rattle.drainage_outcomes.proofs.settle.Tie as tie
+mod PlaceNames
+use PlaceNames.*
 
 -- the outcome, of the readings that came in
-got : (c : tie.After-outcome) → let a = c .before .before .before .before .args in c .outcome .result ≡ outcomeFor (a .flow) (a .content) (a .temp) (a .press) (a .status) (a .flow-held) (a .content-held)
+got : (c : tie.After-outcome) → let a = start·got c .args in c .outcome .result ≡ outcomeFor (a .flow) (a .content) (a .temp) (a .press) (a .status)
+    (a .flow-held) (a .content-held)
 got c =
-    let a = c .before .before .before .before .args in
-    let l : c .before .lacks .result ≡ either (tempMissing (a .temp)) (pressMissing (a .press)) =
-    c .before .lacks .ensures ∙ ap (λ (z : ℤ). either (tempMissing z) (pressMissing (a .press))) (toZ-ofZ (c .before .before .before .before .fits .temp)) in
-    let f : c .before .before .before .held-outcome .result ≡ heldOutcome 1 (a .flow-held) = c .before .before .before .held-outcome .ensures in
-    let g : c .before .before .held-outcome2 .result ≡ heldOutcome 2 (a .content-held) = c .before .before .held-outcome2 .ensures in
+    let a = start·got c .args in
+    let l : lacks·got c .lacks .result ≡ either (tempMissing (a .temp)) (pressMissing (a .press)) =
+    lacks·got c .lacks .ensures ∙ ap (λ (z : ℤ). either (tempMissing z) (pressMissing (a .press))) (toZ-ofZ (start·got c .fits .temp)) in
+    let f : held-outcome·got c .held-outcome .result ≡ heldOutcome 1 (a .flow-held) = held-outcome·got c .held-outcome .ensures in
+    let g : held-outcome2·got c .held-outcome2 .result ≡ heldOutcome 2 (a .content-held) = held-outcome2·got c .held-outcome2 .ensures in
     c .outcome .ensures ∙ (λ i. outcomeOf (a .status) (l i) (eqb (a .flow) mark) (eqb (a .content) mark) (f i) (g i))
 
 held-outcome-requires : tie.Need-held-outcome-requires
@@ -35,16 +38,17 @@ outcome-requires : tie.Need-outcome-requires
 outcome-requires c κs = tt
 
 methane-litres-requires : tie.Need-methane-litres-requires
-methane-litres-requires c κs = let a = c .before .before .before .before .before .args in
-    let y = counted-inside _ _ _ _ (a .status) _ _ (c .before .before .before .before .before .pre) (subst (λ (k : ℕ). k < 3) (got (c .before)) (c .if1 .taken)) in
-    (subst (λ (z : ℤ). Inside (a .flow-held) z (a .press)) (sym (toZ-ofZ (c .before .before .before .before .before .fits .temp))) (y .0), omega (arith, y .1))
+methane-litres-requires c κs = let a = start·methane-litres-requires c .args in
+    let y = counted-inside _ _ _ _ (a .status) _ _ (start·methane-litres-requires c .pre)
+    (subst (λ (k : ℕ). k < 3) (got (outcome·methane-litres-requires c)) (c .if1 .taken)) in
+    (subst (λ (z : ℤ). Inside (a .flow-held) z (a .press)) (sym (toZ-ofZ (start·methane-litres-requires c .fits .temp))) (y .0), omega (arith, y .1))
 
 returns : tie.Need-returns
-returns c = let a = c .before .before .before .before .before .before .args in counted-entry _ _ _ _ _ _ _ _ (got (c .before .before)) (c .before .if1 .taken) _
-    (c .methane-litres .ensures .0 ∙ ap (λ (z : ℤ). methaneLitres (a .flow-held) (a .content-held) z (a .press)) (toZ-ofZ (c .before .before .before .before .before .before .fits .temp)))
+returns c = let a = start·returns c .args in counted-entry _ _ _ _ _ _ _ _ (got (outcome·returns c)) (if1·returns c .if1 .taken) _
+    (c .methane-litres .ensures .0 ∙ ap (λ (z : ℤ). methaneLitres (a .flow-held) (a .content-held) z (a .press)) (toZ-ofZ (start·returns c .fits .temp)))
 
 returns-2 : tie.Need-returns-2
-returns-2 c = excluded-entry _ _ _ _ _ _ _ _ (got (c .before)) (c .if1 .left)
+returns-2 c = excluded-entry _ _ _ _ _ _ _ _ (got (outcome·returns-2 c)) (c .if1 .left)
 
 pub settle-spec : {M : Type 1} → statement M
 settle-spec =

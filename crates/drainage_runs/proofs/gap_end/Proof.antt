@@ -15,6 +15,8 @@ use Rattle.drainage_runs.proofs.gap_end.Statement.{statement}
 use Rattle.drainage_runs.proofs.gap_end.Tie as tie
 use Rattle.drainage_runs.proofs.gap_end.Reads as reads
 use Rattle.drainage_runs.proofs.gap_end.Lts as lts
+mod PlaceNames
+use PlaceNames.*
 
 abbrev Inv-loop : tie.InvT-loop
 Inv-loop reading from i₀ i = (from ≤ i) × (i ≤ length reading) × (gapEnd reading from ≡ gapEnd reading i)
@@ -22,39 +24,31 @@ Inv-loop reading from i₀ i = (from ≤ i) × (i ≤ length reading) × (gapEnd
 abbrev μ-loop : tie.MeasureT-loop
 μ-loop reading from i₀ i = length reading - i
 
--- src/lib.rt:13:5
 loop-holds : tie.Need-loop-holds Inv-loop μ-loop
 loop-holds c = (omega arith, c .pre, refl)
 
--- src/lib.rt:14:12
 mul-if1 : tie.Need-mul-if1 Inv-loop μ-loop
 mul-if1 c = search needs
 
--- src/lib.rt:14:12
 shared-slice-read-if1 : tie.Need-shared-slice-read-if1 Inv-loop μ-loop
 shared-slice-read-if1 c = search needs
 
--- src/lib.rt:15:13
 returns : tie.Need-returns Inv-loop μ-loop
-returns c = let row = c .before .before .before .before .args .reading .now in let v = c .before .before .before .loop .inv in
-    (sym (v .2 ∙ end-here row _ (measured-is row _ (c .before .before .loop-test .taken) (c .if1 .taken))), v .0, v .1)
+returns c = let row = start·returns c .args .reading .now in let v = loop·returns c .loop .inv in
+    (sym (v .2 ∙ end-here row _ (measured-is row _ (loop-test·returns c .loop-test .taken) (c .if1 .taken))), v .0, v .1)
 
--- src/lib.rt:17:9
 add-i : tie.Need-add-i Inv-loop μ-loop
 add-i c = search needs
 
--- src/lib.rt:13:5
 loop-less : tie.Need-loop-less Inv-loop μ-loop
 loop-less c = search needs
 
--- src/lib.rt:13:5
 loop-again : tie.Need-loop-again Inv-loop μ-loop
-loop-again c = let row = c .before .before .before .before .args .reading .now in let v = c .before .before .before .loop .inv in let h = c .before .before .loop-test .taken in
+loop-again c = let row = start·loop-again c .args .reading .now in let v = loop·loop-again c .loop .inv in let h = loop-test·loop-again c .loop-test .taken in
     (omega arith, omega arith, v .2 ∙ end-on row _ h (missing-is row _ h (c .if1 .left)) ∙ ap (gapEnd row) (sym (add-one _)))
 
--- src/lib.rt:8:1
 returns-2 : tie.Need-returns-2 Inv-loop μ-loop
-returns-2 c = let v = c .before .loop .inv in (sym (v .2 ∙ end-out _ _ (c .loop-test .left)), v .0, v .1)
+returns-2 c = let v = loop·returns-2 c .loop .inv in (sym (v .2 ∙ end-out _ _ (c .loop-test .left)), v .0, v .1)
 
 pub gap-end-spec : {M : Type 1} → statement M
 gap-end-spec =

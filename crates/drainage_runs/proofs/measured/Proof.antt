@@ -9,6 +9,8 @@ use Rattle.drainage_runs.proofs.Look.{every-more, every-not, every-end}
 use borrow.Author.Needs.{needs}
 use Rattle.drainage_runs.proofs.measured.Statement.{statement}
 use Rattle.drainage_runs.proofs.measured.Tie as tie
+mod PlaceNames
+use PlaceNames.*
 
 abbrev Inv-loop : tie.InvT-loop
 Inv-loop reading i all₀ k₀ all k = (k ≤ 16) × (all ≡ every k (λ j. measuredAt reading (i + j)))
@@ -36,9 +38,9 @@ loop-less c = search needs
 
 loop-again : tie.Need-loop-again Inv-loop μ-loop
 loop-again c =
-    let row = c .before .before .before .before .args .reading .now in
-    let i = c .before .before .before .before .args .i in
-    let k = c .before .before .before .loop .k in
+    let row = start·loop-again c .args .reading .now in
+    let i = start·loop-again c .args .i in
+    let k = loop·loop-again c .loop .k in
     (omega arith, every-not (λ j. measuredAt row (i + j)) k (ap not (missing-is row (i + k) (omega arith) (c .if1 .taken))))
 
 add-k-2 : tie.Need-add-k-2 Inv-loop μ-loop
@@ -49,17 +51,17 @@ loop-less-2 c = search needs
 
 loop-again-2 : tie.Need-loop-again-2 Inv-loop μ-loop
 loop-again-2 c =
-    let row = c .before .before .before .before .args .reading .now in
-    let i = c .before .before .before .before .args .i in
-    let v = c .before .before .before .loop in (
+    let row = start·loop-again-2 c .args .reading .now in
+    let i = start·loop-again-2 c .args .i in
+    let v = loop·loop-again-2 c .loop in (
       omega arith,
       every-more (λ j. measuredAt row (i + j)) (v .k) (v .inv .1) (ap not (measured-is row (i + v .k) (omega arith) (c .if1 .left))),
     )
 
 returns : tie.Need-returns Inv-loop μ-loop
 returns c =
-    let g = c .before .before .args in
-    let v = c .before .loop in
+    let g = start·returns c .args in
+    let v = loop·returns c .loop in
     every-end (λ j. measuredAt (g .reading .now) (g .i + j)) 16 (v .k) (v .inv .1) (v .inv .0) (omega (arith, c .loop-test .left))
 
 pub measured-spec : {M : Type 1} → statement M

@@ -4,9 +4,12 @@ use mathlib.Core.Bool.{true}
 use native.Mathlib.Omega.{arith}
 use borrow.Author.Needs.{needs}
 use borrow.Author.Tests.{not-false, not-true}
-use Rattle.drainage_runs.proofs.Look.{Measured, measured-none, measured-block, Looked, short-before, short-after, looked-none, looked-room, looked-side, looked-all, looked-fails}
+use Rattle.drainage_runs.proofs.Look.{Measured, measured-none, measured-block, Looked, short-before, short-after, looked-none, looked-room, looked-side}
+use Rattle.drainage_runs.proofs.Look.{looked-all, looked-fails}
 use Rattle.drainage_runs.proofs.windows_whole.Statement.{statement}
 use Rattle.drainage_runs.proofs.windows_whole.Tie as tie
+mod PlaceNames
+use PlaceNames.*
 
 abbrev Inv-loop : tie.InvT-loop
 Inv-loop reading a e blocks w all₀ from side k₀ all k = (all ≡ true) × (k ≤ blocks) × Measured reading from (16 * k)
@@ -31,28 +34,29 @@ add-if2 c = search needs
 
 returns-2 : tie.Need-returns-2 Inv-loop μ-loop Inv-look μ-look
 returns-2 c =
-    let g = c .before .before .before .args in
-    short-after (g .reading .now) (g .a) (g .e) (16 * g .blocks) (c .before .before .before .pre .2) (omega (arith, c .if2 .taken))
+    let g = start·returns-2 c .args in
+    short-after (g .reading .now) (g .a) (g .e) (16 * g .blocks) (start·returns-2 c .pre .2) (omega (arith, c .if2 .taken))
 
 look-holds : tie.Need-look-holds Inv-loop μ-loop Inv-look μ-look
 look-holds c =
-    let g = c .before .before .before .args in (
+    let g = start·look-holds c .args in (
       refl,
       omega arith,
-      looked-none (g .reading .now) (g .a) (g .e) (16 * g .blocks) (c .before .before .before .pre .1) (omega (arith, c .before .if1 .left)) (omega (arith, c .if2 .left)),
+      looked-none (g .reading .now) (g .a) (g .e) (16 * g .blocks) (start·look-holds c .pre .1) (omega (arith, if1·look-holds c .if1 .left))
+          (omega (arith, c .if2 .left)),
     )
 
 loop-holds : tie.Need-loop-holds Inv-loop μ-loop Inv-look μ-look
-loop-holds c = (c .before .look .inv .0, omega arith, measured-none _ _)
+loop-holds c = (look·loop-holds c .look .inv .0, omega arith, measured-none _ _)
 
 mul-measured : tie.Need-mul-measured Inv-loop μ-loop Inv-look μ-look
 mul-measured c = search needs
 
 add-measured : tie.Need-add-measured Inv-loop μ-loop Inv-look μ-look
-add-measured c = record { fits = omega (arith, looked-room (c .before .before .before .look .inv .2)) }
+add-measured c = record { fits = omega (arith, looked-room (look·add-measured c .look .inv .2)) }
 
 measured-requires : tie.Need-measured-requires Inv-loop μ-loop Inv-look μ-look
-measured-requires c κs = omega (arith, looked-room (c .before .before .before .look .inv .2))
+measured-requires c κs = omega (arith, looked-room (look·measured-requires c .look .inv .2))
 
 add-k : tie.Need-add-k Inv-loop μ-loop Inv-look μ-look
 add-k c = search needs
@@ -62,8 +66,8 @@ loop-less c = search needs
 
 loop-again : tie.Need-loop-again Inv-loop μ-loop Inv-look μ-look
 loop-again c =
-    let v = c .before .before .before .loop .inv in
-    (v .0, omega arith, measured-block _ _ _ (v .2) (sym (c .before .measured .ensures) ∙ not-false _ (c .if3 .left)))
+    let v = loop·loop-again c .loop .inv in
+    (v .0, omega arith, measured-block _ _ _ (v .2) (sym (measured·loop-again c .measured .ensures) ∙ not-false _ (c .if3 .left)))
 
 add-side : tie.Need-add-side Inv-loop μ-loop Inv-look μ-look
 add-side c = search needs
@@ -73,20 +77,21 @@ look-less c = search needs
 
 look-again : tie.Need-look-again Inv-loop μ-loop Inv-look μ-look
 look-again c =
-    let v = c .before .loop .inv in
-    let q : c .before .loop .k ≡ c .before .before .before .before .before .before .before .args .blocks = omega (arith, v .1, c .loop-test .left) in (
+    let v = loop·look-again c .loop .inv in
+    let q : loop·look-again c .loop .k ≡ start·look-again c .args .blocks = omega (arith, v .1, c .loop-test .left) in (
       v .0,
       omega arith,
-      looked-side (c .before .before .before .look .inv .2) (subst (λ (n : ℕ). Measured (c .before .before .before .before .before .before .before .args .reading .now) (c .before .before .before .look .from) (16 * n)) q (v .2)),
+      looked-side (look·look-again c .look .inv .2)
+          (subst (λ (n : ℕ). Measured (start·look-again c .args .reading .now) (look·look-again c .look .from) (16 * n)) q (v .2)),
     )
 
 returns-3 : tie.Need-returns-3 Inv-loop μ-loop Inv-look μ-look
-returns-3 c = c .before .look .inv .0 ∙ sym (looked-all (c .before .look .inv .2) (omega (arith, c .look-test .left)))
+returns-3 c = look·returns-3 c .look .inv .0 ∙ sym (looked-all (look·returns-3 c .look .inv .2) (omega (arith, c .look-test .left)))
 
 returns-4 : tie.Need-returns-4 Inv-loop μ-loop Inv-look μ-look
 returns-4 c =
-    looked-fails (c .before .before .before .before .before .look .inv .2) _ _ refl (omega (arith, c .before .before .before .before .look-test .taken)) (c .before .before .loop-test .taken)
-    (sym (c .before .measured .ensures) ∙ not-true _ (c .if3 .taken))
+    looked-fails (look·returns-4 c .look .inv .2) _ _ refl (omega (arith, look-test·returns-4 c .look-test .taken)) (loop-test·returns-4 c .loop-test .taken)
+    (sym (measured·returns-4 c .measured .ensures) ∙ not-true _ (c .if3 .taken))
 
 pub windows-whole-spec : {M : Type 1} → statement M
 windows-whole-spec =

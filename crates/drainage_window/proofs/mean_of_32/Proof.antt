@@ -30,13 +30,37 @@ shared-slice-read-sum-2 : tie.Need-shared-slice-read-sum-2 Inv-loop μ-loop
 shared-slice-read-sum-2 c = search needs
 
 cast-sum-2 : tie.Need-cast-sum-2 Inv-loop μ-loop
-cast-sum-2 c = record { fits = omega (arith, first-fits (c .before .before .before .loop .inv) (c .before .before .loop-test .taken), second-fits (c .before .before .before .loop .inv) (c .before .before .loop-test .taken)) }
+cast-sum-2 c =
+    record {
+      fits =
+          omega (
+            arith,
+            first-fits (c .before .before .before .loop .inv) (c .before .before .loop-test .taken),
+            second-fits (c .before .before .before .loop .inv) (c .before .before .loop-test .taken),
+          );
+    }
 
 add-sum : tie.Need-add-sum Inv-loop μ-loop
-add-sum c = record { fits = omega (arith, first-fits (c .before .before .before .loop .inv) (c .before .before .loop-test .taken), second-fits (c .before .before .before .loop .inv) (c .before .before .loop-test .taken)) }
+add-sum c =
+    record {
+      fits =
+          omega (
+            arith,
+            first-fits (c .before .before .before .loop .inv) (c .before .before .loop-test .taken),
+            second-fits (c .before .before .before .loop .inv) (c .before .before .loop-test .taken),
+          );
+    }
 
 add-sum-2 : tie.Need-add-sum-2 Inv-loop μ-loop
-add-sum-2 c = record { fits = omega (arith, pair-fits (c .before .before .before .loop .inv) (c .before .before .loop-test .taken), first-fits (c .before .before .before .loop .inv) (c .before .before .loop-test .taken)) }
+add-sum-2 c =
+    record {
+      fits =
+          omega (
+            arith,
+            pair-fits (c .before .before .before .loop .inv) (c .before .before .loop-test .taken),
+            first-fits (c .before .before .before .loop .inv) (c .before .before .loop-test .taken),
+          );
+    }
 
 add-i : tie.Need-add-i Inv-loop μ-loop
 add-i c = search needs

@@ -6,6 +6,8 @@ use Rattle.drainage_window.specs.Window.{tallyOf, Sized}
 use Rattle.drainage_window.proofs.Adding.{sums, sums-are, sums-sized}
 use Rattle.drainage_window.proofs.tally_of.Statement.{statement}
 use Rattle.drainage_window.proofs.tally_of.Tie as tie
+mod PlaceNames
+use PlaceNames.*
 
 one-requires : tie.Need-one-requires
 one-requires c κs = search needs
@@ -15,26 +17,26 @@ one-requires-2 c κs = search needs
 
 -- what is known once both windows are added
 whole : (c : tie.After-one2)
-    → sums (c .before .one .result) (c .one2 .result)
-    ≡ tallyOf (c .before .before .before .before .args .before .now ++ c .before .before .before .before .args .after .now)
+    → sums (one·whole c .one .result) (c .one2 .result)
+    ≡ tallyOf (start·whole c .args .before .now ++ start·whole c .args .after .now)
 whole c =
-    sums-are (c .before .before .before .before .args .before .now) (c .before .before .before .before .args .after .now)
-    (c .before .one .ensures) (c .one2 .ensures)
+    sums-are (start·whole c .args .before .now) (start·whole c .args .after .now)
+    (one·whole c .one .ensures) (c .one2 .ensures)
 
-sized : (c : tie.After-one2) → Sized (sums (c .before .one .result) (c .one2 .result))
-sized c = sums-sized (c .before .one .ensures) (c .one2 .ensures) (c .before .before .before .before .pre)
+sized : (c : tie.After-one2) → Sized (sums (one·sized c .one .result) (c .one2 .result))
+sized c = sums-sized (one·sized c .one .ensures) (c .one2 .ensures) (start·sized c .pre)
 
 add-t5 : tie.Need-add-t5
-add-t5 c = let s = sized (c .before .before) in record { fits = omega arith }
+add-t5 c = let s = sized (one2·add-t5 c) in record { fits = omega arith }
 
 add-t6 : tie.Need-add-t6
-add-t6 c = let s = sized (c .before .before .before .before) in record { fits = omega arith }
+add-t6 c = let s = sized (one2·add-t6 c) in record { fits = omega arith }
 
 add-t7 : tie.Need-add-t7
-add-t7 c = let s = sized (c .before .before .before .before .before .before) in record { fits = omega arith }
+add-t7 c = let s = sized (one2·add-t7 c) in record { fits = omega arith }
 
 returns : tie.Need-returns
-returns c = (whole (c .before .before .before .before .before .before), sized (c .before .before .before .before .before .before))
+returns c = (whole (one2·returns c), sized (one2·returns c))
 
 pub tally-of-spec : {M : Type 1} → statement M
 tally-of-spec = tie.close (tie.spec one-requires one-requires-2 add-t5 add-t6 add-t7 returns)

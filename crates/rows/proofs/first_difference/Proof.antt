@@ -11,6 +11,8 @@ use Rattle.rows.proofs.first_difference.Statement.{statement}
 use Rattle.rows.proofs.first_difference.Tie as tie
 use Rattle.rows.proofs.first_difference.Reads as reads
 use Rattle.rows.proofs.first_difference.Lts as lts
+mod PlaceNames
+use PlaceNames.*
 
 abbrev differs : List ℕ → List ℕ → ℕ → Bool
 differs have want k = not (eqb (getD have k 0) (getD want k 0))
@@ -21,45 +23,38 @@ Inv-loop have want i₀ i = (length have ≡ length want) × Passed (length have
 abbrev μ-loop : tie.MeasureT-loop
 μ-loop have want i₀ i = length have - i
 
--- src/lib.rt:18:5
 loop-holds : tie.Need-loop-holds Inv-loop μ-loop
 loop-holds c = (c .pre, passed-none _ _)
 
--- src/lib.rt:19:12
 mul-if1 : tie.Need-mul-if1 Inv-loop μ-loop
 mul-if1 c = search needs
 
--- src/lib.rt:19:12
 shared-slice-read-if1 : tie.Need-shared-slice-read-if1 Inv-loop μ-loop
 shared-slice-read-if1 c = search needs
 
--- src/lib.rt:19:23
 mul-if1-2 : tie.Need-mul-if1-2 Inv-loop μ-loop
 mul-if1-2 c = search needs
 
--- src/lib.rt:19:23
 shared-slice-read-if1-2 : tie.Need-shared-slice-read-if1-2 Inv-loop μ-loop
 shared-slice-read-if1-2 c = search needs
 
--- src/lib.rt:20:13
 returns : tie.Need-returns Inv-loop μ-loop
-returns c = passed-found _ _ _ (c .before .before .before .before .loop .inv .1) (ap not (ne-eqb _ _ (c .if1 .taken)))
+returns c = passed-found _ _ _ (loop·returns c .loop .inv .1) (ap not (ne-eqb _ _ (c .if1 .taken)))
 
--- src/lib.rt:22:9
 add-i : tie.Need-add-i Inv-loop μ-loop
 add-i c = search needs
 
--- src/lib.rt:18:5
 loop-less : tie.Need-loop-less Inv-loop μ-loop
 loop-less c = search needs
 
--- src/lib.rt:18:5
 loop-again : tie.Need-loop-again Inv-loop μ-loop
-loop-again c = (c .before .before .before .before .loop .inv .0, passed-more _ _ _ (c .before .before .before .before .loop .inv .1) (c .before .before .before .loop-test .taken) (ap not (eq-eqb _ _ (c .if1 .left))))
+loop-again c = (
+  loop·loop-again c .loop .inv .0,
+  passed-more _ _ _ (loop·loop-again c .loop .inv .1) (loop-test·loop-again c .loop-test .taken) (ap not (eq-eqb _ _ (c .if1 .left))),
+)
 
--- src/lib.rt:10:1
 returns-2 : tie.Need-returns-2 Inv-loop μ-loop
-returns-2 c = passed-all _ _ _ (c .before .loop .inv .1) (c .loop-test .left)
+returns-2 c = passed-all _ _ _ (loop·returns-2 c .loop .inv .1) (c .loop-test .left)
 
 pub first-difference-spec : {M : Type 1} → statement M
 first-difference-spec =

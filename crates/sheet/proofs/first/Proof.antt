@@ -6,15 +6,12 @@ use Rattle.sheet.proofs.first.Tie as tie
 use Rattle.sheet.proofs.first.Reads as reads
 use Rattle.sheet.proofs.first.Lts as lts
 
--- src/main.rt:12:23
 slice-aggregate-result : tie.Need-slice-aggregate-result
 slice-aggregate-result c = sym (length-take-le _ _ (c .before .if1 .taken))
 
--- src/main.rt:11:1
 returns : tie.Need-returns
 returns c = search needs
 
--- src/main.rt:11:1
 returns-2 : tie.Need-returns-2
 returns-2 c = search needs
 

@@ -9,64 +9,51 @@ use Rattle.io.proofs.read_full.Reads as read-full-reads
 use Rattle.io.proofs.write_all.Reads as write-all-reads
 use Rattle.drainage_report.proofs.report.Reads as report-reads
 use Rattle.sheet.proofs.first.Reads as first-reads
+mod PlaceNames
+use PlaceNames.*
 
--- src/main.rt:17:9
 read-full-requires : tie.Need-read-full-requires
 read-full-requires c κs = search needs
 
--- src/main.rt:28:9
 first-requires : tie.Need-first-requires
 first-requires c κs = search needs
 
--- src/main.rt:29:9
 slice-aggregate-report : tie.Need-slice-aggregate-report
 slice-aggregate-report c = search needs
 
--- src/main.rt:30:9
 slice-aggregate-report-2 : tie.Need-slice-aggregate-report-2
 slice-aggregate-report-2 c = search needs
 
--- src/main.rt:31:9
 slice-aggregate-report-3 : tie.Need-slice-aggregate-report-3
 slice-aggregate-report-3 c = search needs
 
--- src/main.rt:32:9
 slice-aggregate-report-4 : tie.Need-slice-aggregate-report-4
 slice-aggregate-report-4 c = search needs
 
--- src/main.rt:33:9
 slice-aggregate-report-5 : tie.Need-slice-aggregate-report-5
 slice-aggregate-report-5 c = search needs
 
--- src/main.rt:34:9
 slice-aggregate-report-6 : tie.Need-slice-aggregate-report-6
 slice-aggregate-report-6 c = search needs
 
--- src/main.rt:35:9
 slice-aggregate-report-7 : tie.Need-slice-aggregate-report-7
 slice-aggregate-report-7 c = search needs
 
--- src/main.rt:36:9
 slice-aggregate-report-8 : tie.Need-slice-aggregate-report-8
 slice-aggregate-report-8 c = search needs
 
--- src/main.rt:27:9
 report-requires : tie.Need-report-requires
 report-requires c κs = search needs
 
--- src/main.rt:39:40
 slice-aggregate-first : tie.Need-slice-aggregate-first
-slice-aggregate-first c = sym (leads-long _ _ _ _ (c .before .before .before .before .before .before .before .before .before .report .ensures .written))
+slice-aggregate-first c = sym (leads-long _ _ _ _ (report·slice-aggregate-first c .report .ensures .written))
 
--- src/main.rt:39:34
 first-requires-2 : tie.Need-first-requires-2
 first-requires-2 c κs = search needs
 
--- src/main.rt:39:5
 write-all-requires : tie.Need-write-all-requires
 write-all-requires c κs = search needs
 
--- src/main.rt:16:1
 returns : tie.Need-returns
 returns c = search needs
 

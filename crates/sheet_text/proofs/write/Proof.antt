@@ -9,6 +9,8 @@ use Rattle.sheet_text.proofs.Steps.{nothing, put-short, put-done}
 use borrow.Author.Needs.{needs}
 use Rattle.sheet_text.proofs.write.Statement.{statement}
 use Rattle.sheet_text.proofs.write.Tie as tie
+mod PlaceNames
+use PlaceNames.*
 
 slice-relend-prefix-put-sheet : tie.Need-slice-relend-prefix-put-sheet
 slice-relend-prefix-put-sheet c = omega arith
@@ -24,8 +26,11 @@ same-length c = search needs
 
 returns : tie.Need-returns
 returns c =
-    put-short (c .before .before .before .before .before .before .args .f) (now (c .before .before .before .before .before .before .args .buf)) (c .before .before .before .put-sheet .last .1 .0 ++ now (c .before .before .before .before .before .before .args .buf)) (c .before .before .before .put-sheet .result)
-    (ap (λ (x : List ℕ). x ++ now (c .before .before .before .before .before .before .args .buf)) (nothing (c .before .before .before .put-sheet .last .1 .0) (textOf (c .before .before .before .before .before .before .args .f)) (c .before .before .before .put-sheet .ensures .0 .is))) (c .before .before .before .put-sheet .ensures .0 .stops) (omega (arith, c .if1 .taken)) (c .before .before .before .put-sheet .ensures .1)
+    put-short (start·returns c .args .f) (now (start·returns c .args .buf)) (put-sheet·returns c .put-sheet .last .1 .0 ++ now (start·returns c .args .buf))
+    (put-sheet·returns c .put-sheet .result)
+    (ap (λ (x : List ℕ). x ++ now (start·returns c .args .buf))
+    (nothing (put-sheet·returns c .put-sheet .last .1 .0) (textOf (start·returns c .args .f)) (put-sheet·returns c .put-sheet .ensures .0 .is)))
+    (put-sheet·returns c .put-sheet .ensures .0 .stops) (omega (arith, c .if1 .taken)) (put-sheet·returns c .put-sheet .ensures .1)
 
 put-sheet-requires-2 : tie.Need-put-sheet-requires-2
 put-sheet-requires-2 c κs = search needs
@@ -35,8 +40,12 @@ same-length-2 c = search needs
 
 returns-2 : tie.Need-returns-2
 returns-2 c =
-    put-done (c .before .before .before .before .before .before .before .before .before .before .args .f) (now (c .before .before .before .before .before .before .before .before .before .before .args .buf)) (c .before .before .before .before .before .before .before .put-sheet .last .1 .0 ++ now (c .before .before .before .before .before .before .before .before .before .before .args .buf)) (c .before .before .put-sheet2 .last .1 .0) (c .before .before .before .before .before .before .before .put-sheet .result) (c .before .before .put-sheet2 .result)
-    (ap (λ (x : List ℕ). x ++ now (c .before .before .before .before .before .before .before .before .before .before .args .buf)) (nothing (c .before .before .before .before .before .before .before .put-sheet .last .1 .0) (textOf (c .before .before .before .before .before .before .before .before .before .before .args .f)) (c .before .before .before .before .before .before .before .put-sheet .ensures .0 .is))) (c .before .before .before .before .before .before .before .put-sheet .ensures .0 .stops) (omega (arith, c .before .before .before .before .if1 .left)) (c .before .before .put-sheet2 .ensures .0)
+    put-done (start·returns-2 c .args .f) (now (start·returns-2 c .args .buf))
+    (put-sheet·returns-2 c .put-sheet .last .1 .0 ++ now (start·returns-2 c .args .buf)) (put-sheet2·returns-2 c .put-sheet2 .last .1 .0)
+    (put-sheet·returns-2 c .put-sheet .result) (put-sheet2·returns-2 c .put-sheet2 .result)
+    (ap (λ (x : List ℕ). x ++ now (start·returns-2 c .args .buf))
+    (nothing (put-sheet·returns-2 c .put-sheet .last .1 .0) (textOf (start·returns-2 c .args .f)) (put-sheet·returns-2 c .put-sheet .ensures .0 .is)))
+    (put-sheet·returns-2 c .put-sheet .ensures .0 .stops) (omega (arith, if1·returns-2 c .if1 .left)) (put-sheet2·returns-2 c .put-sheet2 .ensures .0)
 
 pub write-spec : {M : Type 1} → statement M
 write-spec =

@@ -8,7 +8,8 @@ use Rattle.text.proofs.exceeds.Statement.{statement}
 use Rattle.text.proofs.exceeds.Tie as tie
 
 returns : tie.Need-returns
-returns c = let a = c .before .args in tells (a .most) (10 * a .v + a .d) _ (λ over. omega arith) (λ under. absurd (let z : _≡_ {A = ℕ} 0 1 = cc in omega arith))
+returns c =
+    let a = c .before .args in tells (a .most) (10 * a .v + a .d) _ (λ over. omega arith) (λ under. absurd (let z : _≡_ {A = ℕ} 0 1 = cc in omega arith))
 
 returns-2 : tie.Need-returns-2
 returns-2 c = let a = c .before .args in tells (a .most) (10 * a .v + a .d) _ (λ over. omega (arith, leb-true)) (λ under. omega (arith, leb-false))

@@ -4,12 +4,16 @@ use borrow.Author.Needs.{needs}
 use Rattle.text.proofs.Keys.{matched-whole}
 use Rattle.text.proofs.matched.Statement.{statement}
 use Rattle.text.proofs.matched.Tie as tie
+mod PlaceNames
+use PlaceNames.*
 
 same-requires : tie.Need-same-requires
 same-requires c κs = search needs
 
 returns : tie.Need-returns
-returns c = let a = c .before .before .before .before .args in matched-whole (now (a .t)) (a .start) (now (a .key)) (c .before .same .result) (c .before .same .ensures) (c .if1 .taken)
+returns c =
+    let a = start·returns c .args in matched-whole (now (a .t)) (a .start) (now (a .key)) (same·returns c .same .result) (same·returns c .same .ensures)
+    (c .if1 .taken)
 
 agreed-requires : tie.Need-agreed-requires
 agreed-requires c κs = search needs

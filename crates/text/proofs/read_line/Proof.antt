@@ -8,6 +8,8 @@ use Rattle.text.proofs.Lines.{line-natural}
 use borrow.Author.Needs.{needs}
 use Rattle.text.proofs.read_line.Statement.{statement}
 use Rattle.text.proofs.read_line.Tie as tie
+mod PlaceNames
+use PlaceNames.*
 
 matched-requires : tie.Need-matched-requires
 matched-requires c κs = search needs
@@ -17,8 +19,9 @@ add-t9 c = search needs
 
 returns : tie.Need-returns
 returns c =
-    let a = c .before .before .before .before .args in
-    key-broken (now (a .t)) (a .start) (c .before .matched .result) (now (a .key)) (plain (a .least) (a .most)) (c .before .matched .ensures) (pos (a .most)) (c .before .before .before .before .pre .range, omega arith) (c .if1 .taken)
+    let a = start·returns c .args in
+    key-broken (now (a .t)) (a .start) (matched·returns c .matched .result) (now (a .key)) (plain (a .least) (a .most)) (matched·returns c .matched .ensures)
+    (pos (a .most)) (start·returns c .pre .range, omega arith) (c .if1 .taken)
 
 add-read-natural : tie.Need-add-read-natural
 add-read-natural c = search needs
@@ -28,8 +31,9 @@ read-natural-requires c κs = search needs
 
 returns-2 : tie.Need-returns-2
 returns-2 c =
-    let a = c .before .before .before .before .before .args in
-    line-natural (now (a .t)) (a .start) (c .before .before .matched .result) (now (a .key)) (plain (a .least) (a .most)) (c .before .before .matched .ensures) (c .before .if1 .left) (c .read-natural .result) (c .read-natural .ensures)
+    let a = start·returns-2 c .args in
+    line-natural (now (a .t)) (a .start) (matched·returns-2 c .matched .result) (now (a .key)) (plain (a .least) (a .most))
+    (matched·returns-2 c .matched .ensures) (if1·returns-2 c .if1 .left) (c .read-natural .result) (c .read-natural .ensures)
 
 pub read-line-spec : {M : Type 1} → statement M
 read-line-spec =

@@ -8,6 +8,8 @@ use Rattle.text.proofs.Lines.{line-whole}
 use borrow.Author.Needs.{needs}
 use Rattle.text.proofs.read_signed_line.Statement.{statement}
 use Rattle.text.proofs.read_signed_line.Tie as tie
+mod PlaceNames
+use PlaceNames.*
 
 matched-requires : tie.Need-matched-requires
 matched-requires c κs = search needs
@@ -17,8 +19,9 @@ add-t9 c = search needs
 
 returns : tie.Need-returns
 returns c =
-    let a = c .before .before .before .before .args in
-    key-broken (now (a .t)) (a .start) (c .before .matched .result) (now (a .key)) (signed (a .below) (a .most)) (c .before .matched .ensures) (pos 0) (omega arith, omega arith) (c .if1 .taken)
+    let a = start·returns c .args in
+    key-broken (now (a .t)) (a .start) (matched·returns c .matched .result) (now (a .key)) (signed (a .below) (a .most)) (matched·returns c .matched .ensures)
+    (pos 0) (omega arith, omega arith) (c .if1 .taken)
 
 add-read-whole : tie.Need-add-read-whole
 add-read-whole c = search needs
@@ -28,8 +31,9 @@ read-whole-requires c κs = search needs
 
 returns-2 : tie.Need-returns-2
 returns-2 c =
-    let a = c .before .before .before .before .before .args in
-    line-whole (now (a .t)) (a .start) (c .before .before .matched .result) (now (a .key)) (signed (a .below) (a .most)) (c .before .before .matched .ensures) (c .before .if1 .left) (c .read-whole .result) (c .read-whole .ensures)
+    let a = start·returns-2 c .args in
+    line-whole (now (a .t)) (a .start) (matched·returns-2 c .matched .result) (now (a .key)) (signed (a .below) (a .most))
+    (matched·returns-2 c .matched .ensures) (if1·returns-2 c .if1 .left) (c .read-whole .result) (c .read-whole .ensures)
 
 pub read-signed-line-spec : {M : Type 1} → statement M
 read-signed-line-spec =

@@ -7,6 +7,8 @@ use lib.ListN.{length}
 use Rattle.text.proofs.Keys.{Alike, alike-none, alike-next, alike-four, same-all, same-short, same-byte, same-word}
 use Rattle.text.proofs.same.Statement.{statement}
 use Rattle.text.proofs.same.Tie as tie
+mod PlaceNames
+use PlaceNames.*
 
 abbrev Inv-loop : tie.InvT-loop
 Inv-loop t start key n i₀ i = Alike t start key i
@@ -24,10 +26,10 @@ sub-if1 : tie.Need-sub-if1 Inv-loop μ-loop Inv-loop2 μ-loop2
 sub-if1 c = search needs
 
 returns : tie.Need-returns Inv-loop μ-loop Inv-loop2 μ-loop2
-returns c = same-short (c .before .before .before .pre) (omega arith)
+returns c = same-short (start·returns c .pre) (omega arith)
 
 loop-holds : tie.Need-loop-holds Inv-loop μ-loop Inv-loop2 μ-loop2
-loop-holds c = alike-none (c .before .before .before .pre) (omega arith)
+loop-holds c = alike-none (start·loop-holds c .pre) (omega arith)
 
 add-loop : tie.Need-add-loop Inv-loop μ-loop Inv-loop2 μ-loop2
 add-loop c = omega arith
@@ -42,7 +44,8 @@ word-requires-2 : tie.Need-word-requires-2 Inv-loop μ-loop Inv-loop2 μ-loop2
 word-requires-2 c κs = omega arith
 
 returns-2 : tie.Need-returns-2 Inv-loop μ-loop Inv-loop2 μ-loop2
-returns-2 c = same-word (c .before .before .before .before .loop .inv) (omega arith) (λ e. c .if2 .taken (c .before .before .word .ensures ∙ e ∙ sym (c .before .word2 .ensures)))
+returns-2 c =
+    same-word (loop·returns-2 c .loop .inv) (omega arith) (λ e. c .if2 .taken (word·returns-2 c .word .ensures ∙ e ∙ sym (word2·returns-2 c .word2 .ensures)))
 
 add-i : tie.Need-add-i Inv-loop μ-loop Inv-loop2 μ-loop2
 add-i c = omega arith
@@ -51,10 +54,13 @@ loop-less : tie.Need-loop-less Inv-loop μ-loop Inv-loop2 μ-loop2
 loop-less c = omega arith
 
 loop-again : tie.Need-loop-again Inv-loop μ-loop Inv-loop2 μ-loop2
-loop-again c = alike-four (c .before .before .before .before .loop .inv) (λ k. omega (arith, c .before .before .before .before .before .before .before .shared-slice-known .given k)) (λ k. omega (arith, c .before .before .before .before .before .before .shared-slice-known2 .given k)) (omega arith) (sym (c .before .before .word .ensures) ∙ c .if2 .left ∙ c .before .word2 .ensures)
+loop-again c =
+    alike-four (loop·loop-again c .loop .inv) (λ k. omega (arith, shared-slice-known·loop-again c .shared-slice-known .given k))
+    (λ k. omega (arith, shared-slice-known2·loop-again c .shared-slice-known2 .given k)) (omega arith)
+    (sym (word·loop-again c .word .ensures) ∙ c .if2 .left ∙ word2·loop-again c .word2 .ensures)
 
 loop2-holds : tie.Need-loop2-holds Inv-loop μ-loop Inv-loop2 μ-loop2
-loop2-holds c = c .before .loop .inv
+loop2-holds c = loop·loop2-holds c .loop .inv
 
 add-if3 : tie.Need-add-if3 Inv-loop μ-loop Inv-loop2 μ-loop2
 add-if3 c = omega arith
@@ -66,7 +72,7 @@ shared-slice-read-if3-2 : tie.Need-shared-slice-read-if3-2 Inv-loop μ-loop Inv-
 shared-slice-read-if3-2 c = omega arith
 
 returns-3 : tie.Need-returns-3 Inv-loop μ-loop Inv-loop2 μ-loop2
-returns-3 c = same-byte (c .before .before .before .before .loop2 .inv) (omega arith) (c .if3 .taken)
+returns-3 c = same-byte (loop2·returns-3 c .loop2 .inv) (omega arith) (c .if3 .taken)
 
 add-i-2 : tie.Need-add-i-2 Inv-loop μ-loop Inv-loop2 μ-loop2
 add-i-2 c = omega arith
@@ -75,10 +81,10 @@ loop2-less : tie.Need-loop2-less Inv-loop μ-loop Inv-loop2 μ-loop2
 loop2-less c = omega arith
 
 loop2-again : tie.Need-loop2-again Inv-loop μ-loop Inv-loop2 μ-loop2
-loop2-again c = alike-next (c .before .before .before .before .loop2 .inv) _ _ refl refl (omega arith) (c .if3 .left)
+loop2-again c = alike-next (loop2·loop2-again c .loop2 .inv) _ _ refl refl (omega arith) (c .if3 .left)
 
 returns-4 : tie.Need-returns-4 Inv-loop μ-loop Inv-loop2 μ-loop2
-returns-4 c = same-all (c .before .loop2 .inv) (omega arith)
+returns-4 c = same-all (loop2·returns-4 c .loop2 .inv) (omega arith)
 
 pub same-spec : {M : Type 1} → statement M
 same-spec =

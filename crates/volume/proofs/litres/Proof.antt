@@ -39,7 +39,8 @@ returns : tie.Need-returns
 unfolding litresOf
 returns c = (
   ap (λ (k : ℕ). c .before .args .flow * 100 * 29315 * c .before .args .press / (k * 101325)) (absolute c),
-  litres-most (c .before .args .flow) (c .kelvin .result) (c .before .args .press) (c .before .pre .flow-most) (omega (arith, absolute c, c .before .pre .kelvin-least)) (c .before .pre .press-most),
+  litres-most (c .before .args .flow) (c .kelvin .result) (c .before .args .press) (c .before .pre .flow-most)
+      (omega (arith, absolute c, c .before .pre .kelvin-least)) (c .before .pre .press-most),
 )
 
 pub litres-spec : {M : Type 1} → statement M

@@ -9,6 +9,8 @@ use denote.Ref.{now}
 use Rattle.text.proofs.Writing.{put-step}
 use Rattle.writing.proofs.put_bytes.Statement.{statement}
 use Rattle.writing.proofs.put_bytes.Tie as tie
+mod PlaceNames
+use PlaceNames.*
 
 abbrev Inv-loop : tie.InvT-loop
 Inv-loop buf₀ at w i₀ buf i = (i ≤ length w) × (at + length w < 2 ^ 64) × (buf ≡ sets buf₀ at (take i w))
@@ -36,24 +38,24 @@ loop-less c = search needs
 
 loop-again : tie.Need-loop-again Inv-loop μ-loop
 loop-again c =
-    let s = c .before .before .before .before .before .before .before .before .before in
-    let l = c .before .before .before .before .before .before .loop in (
+    let s = start·loop-again c in
+    let l = loop·loop-again c .loop in (
       omega arith,
       omega arith,
-      put-step (now (s .args .buf)) (l .buf) (c .before .before .put .last .0) (now (s .args .w)) (s .args .at) (l .i) (omega arith) (l .inv .2)
-          (c .before .before .put .ensures),
+      put-step (now (s .args .buf)) (l .buf) (put·loop-again c .put .last .0) (now (s .args .w)) (s .args .at) (l .i) (omega arith) (l .inv .2)
+          (put·loop-again c .put .ensures),
     )
 
 add-result : tie.Need-add-result Inv-loop μ-loop
 add-result c = search needs
 
 same-length : tie.Need-same-length Inv-loop μ-loop
-same-length c = ap length (c .before .loop .inv .2) ∙ simp length-sets
+same-length c = ap length (loop·same-length c .loop .inv .2) ∙ simp length-sets
 
 returns : tie.Need-returns Inv-loop μ-loop
 returns c =
-    let s = c .before .before .before .before in
-    let l = c .before .loop in
+    let s = start·returns c in
+    let l = loop·returns c .loop in
     let all : l .i ≡ length (now (s .args .w)) = omega arith in
     record {
       stops = ap (λ (n : ℕ). s .args .at + n) all;

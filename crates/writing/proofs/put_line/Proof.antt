@@ -7,23 +7,41 @@ use Rattle.text.proofs.Writing.{line-length, put-line-parts}
 use borrow.Author.Needs.{needs}
 use Rattle.writing.proofs.put_line.Statement.{statement}
 use Rattle.writing.proofs.put_line.Tie as tie
+mod PlaceNames
+use PlaceNames.*
 
 put-bytes-requires : tie.Need-put-bytes-requires
-put-bytes-requires c κs = omega (arith, line-length (now (c .before .before .before .args .key)) (pos (c .before .before .before .args .v)), c .before .before .before .pre)
+put-bytes-requires c κs =
+    omega (arith, line-length (now (start·put-bytes-requires c .args .key)) (pos (start·put-bytes-requires c .args .v)), start·put-bytes-requires c .pre)
 
 put-natural-requires : tie.Need-put-natural-requires
-put-natural-requires c κs = omega (arith, line-length (now (c .before .before .before .before .before .before .before .args .key)) (pos (c .before .before .before .before .before .before .before .args .v)), c .before .before .before .before .before .before .before .pre, c .before .before .before .put-bytes .ensures .stops)
+put-natural-requires c κs =
+    omega (
+      arith,
+      line-length (now (start·put-natural-requires c .args .key)) (pos (start·put-natural-requires c .args .v)),
+      start·put-natural-requires c .pre,
+      put-bytes·put-natural-requires c .put-bytes .ensures .stops,
+    )
 
 end-line-requires : tie.Need-end-line-requires
-end-line-requires c κs = omega (arith, line-length (now (c .before .before .before .before .before .before .before .before .before .before .before .args .key)) (pos (c .before .before .before .before .before .before .before .before .before .before .before .args .v)), c .before .before .before .before .before .before .before .before .before .before .before .pre, c .before .before .before .before .before .before .before .put-bytes .ensures .stops, c .before .before .before .put-natural .ensures .stops)
+end-line-requires c κs =
+    omega (
+      arith,
+      line-length (now (start·end-line-requires c .args .key)) (pos (start·end-line-requires c .args .v)),
+      start·end-line-requires c .pre,
+      put-bytes·end-line-requires c .put-bytes .ensures .stops,
+      put-natural·end-line-requires c .put-natural .ensures .stops,
+    )
 
 same-length : tie.Need-same-length
 same-length c = search needs
 
 returns : tie.Need-returns
 returns c =
-    put-line-parts (now (c .before .before .before .before .before .before .before .before .before .before .before .before .before .before .args .buf)) (c .before .before .before .before .before .before .before .before .before .before .put-bytes .last .0) (c .before .before .before .before .before .before .put-natural .last .0) (c .before .before .end-line .last .0) (now (c .before .before .before .before .before .before .before .before .before .before .before .before .before .before .args .key)) (c .before .before .before .before .before .before .before .before .before .before .before .before .before .before .args .at) (c .before .before .before .before .before .before .before .before .before .before .put-bytes .result)
-    (c .before .before .before .before .before .before .put-natural .result) (c .before .before .end-line .result) (pos (c .before .before .before .before .before .before .before .before .before .before .before .before .before .before .args .v)) (c .before .before .before .before .before .before .before .before .before .before .put-bytes .ensures) (c .before .before .before .before .before .before .put-natural .ensures) (c .before .before .end-line .ensures)
+    put-line-parts (now (start·returns c .args .buf)) (put-bytes·returns c .put-bytes .last .0) (put-natural·returns c .put-natural .last .0)
+    (end-line·returns c .end-line .last .0) (now (start·returns c .args .key)) (start·returns c .args .at) (put-bytes·returns c .put-bytes .result)
+    (put-natural·returns c .put-natural .result) (end-line·returns c .end-line .result) (pos (start·returns c .args .v))
+    (put-bytes·returns c .put-bytes .ensures) (put-natural·returns c .put-natural .ensures) (end-line·returns c .end-line .ensures)
 
 pub put-line-spec : {M : Type 1} → statement M
 put-line-spec =

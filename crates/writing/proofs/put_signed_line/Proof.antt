@@ -13,28 +13,49 @@ use Rattle.text.proofs.Writing.{line-length, put-line-parts}
 use borrow.Author.Needs.{needs}
 use Rattle.writing.proofs.put_signed_line.Statement.{statement}
 use Rattle.writing.proofs.put_signed_line.Tie as tie
+mod PlaceNames
+use PlaceNames.*
 
 put-bytes-requires : tie.Need-put-bytes-requires
-put-bytes-requires c κs = omega (arith, line-length (now (c .before .before .before .args .key)) (c .before .before .before .args .z), c .before .before .before .pre)
+put-bytes-requires c κs =
+    omega (arith, line-length (now (start·put-bytes-requires c .args .key)) (start·put-bytes-requires c .args .z), start·put-bytes-requires c .pre)
 
 put-whole-requires : tie.Need-put-whole-requires
 put-whole-requires c κs =
-    subst (λ (x : ℤ). c .before .before .before .put-bytes .result + length (decimal x) < 2 ^ 64) (sym (toZ-ofZ w64 (c .before .before .before .before .before .before .before .args .z) (c .before .before .before .before .before .before .before .fits .z)))
-    (omega (arith, line-length (now (c .before .before .before .before .before .before .before .args .key)) (c .before .before .before .before .before .before .before .args .z), c .before .before .before .before .before .before .before .pre, c .before .before .before .put-bytes .ensures .stops))
+    subst (λ (x : ℤ). put-bytes·put-whole-requires c .put-bytes .result + length (decimal x) < 2 ^ 64)
+    (sym (toZ-ofZ w64 (start·put-whole-requires c .args .z) (start·put-whole-requires c .fits .z)))
+    (omega (
+      arith,
+      line-length (now (start·put-whole-requires c .args .key)) (start·put-whole-requires c .args .z),
+      start·put-whole-requires c .pre,
+      put-bytes·put-whole-requires c .put-bytes .ensures .stops,
+    ))
 
 end-line-requires : tie.Need-end-line-requires
 end-line-requires c κs =
-    let w = subst (λ (x : ℤ). Put (c .before .before .before .before .before .before .before .put-bytes .last .0) (c .before .before .before .before .before .before .before .put-bytes .result) (decimal x) (c .before .before .before .put-whole .last .0) (c .before .before .before .put-whole .result)) (toZ-ofZ w64 (c .before .before .before .before .before .before .before .before .before .before .before .args .z) (c .before .before .before .before .before .before .before .before .before .before .before .fits .z)) (c .before .before .before .put-whole .ensures) in
-    omega (arith, line-length (now (c .before .before .before .before .before .before .before .before .before .before .before .args .key)) (c .before .before .before .before .before .before .before .before .before .before .before .args .z), c .before .before .before .before .before .before .before .before .before .before .before .pre, c .before .before .before .before .before .before .before .put-bytes .ensures .stops, w .stops)
+    let w = subst (λ (x : ℤ). Put (put-bytes·end-line-requires c .put-bytes .last .0) (put-bytes·end-line-requires c .put-bytes .result) (decimal x)
+    (put-whole·end-line-requires c .put-whole .last .0) (put-whole·end-line-requires c .put-whole .result))
+    (toZ-ofZ w64 (start·end-line-requires c .args .z) (start·end-line-requires c .fits .z)) (put-whole·end-line-requires c .put-whole .ensures) in
+    omega (
+      arith,
+      line-length (now (start·end-line-requires c .args .key)) (start·end-line-requires c .args .z),
+      start·end-line-requires c .pre,
+      put-bytes·end-line-requires c .put-bytes .ensures .stops,
+      w .stops,
+    )
 
 same-length : tie.Need-same-length
 same-length c = search needs
 
 returns : tie.Need-returns
 returns c =
-    let w = subst (λ (x : ℤ). Put (c .before .before .before .before .before .before .before .before .before .before .put-bytes .last .0) (c .before .before .before .before .before .before .before .before .before .before .put-bytes .result) (decimal x) (c .before .before .before .before .before .before .put-whole .last .0) (c .before .before .before .before .before .before .put-whole .result)) (toZ-ofZ w64 (c .before .before .before .before .before .before .before .before .before .before .before .before .before .before .args .z) (c .before .before .before .before .before .before .before .before .before .before .before .before .before .before .fits .z)) (c .before .before .before .before .before .before .put-whole .ensures) in
-    put-line-parts (now (c .before .before .before .before .before .before .before .before .before .before .before .before .before .before .args .buf)) (c .before .before .before .before .before .before .before .before .before .before .put-bytes .last .0) (c .before .before .before .before .before .before .put-whole .last .0) (c .before .before .end-line .last .0) (now (c .before .before .before .before .before .before .before .before .before .before .before .before .before .before .args .key)) (c .before .before .before .before .before .before .before .before .before .before .before .before .before .before .args .at) (c .before .before .before .before .before .before .before .before .before .before .put-bytes .result)
-    (c .before .before .before .before .before .before .put-whole .result) (c .before .before .end-line .result) (c .before .before .before .before .before .before .before .before .before .before .before .before .before .before .args .z) (c .before .before .before .before .before .before .before .before .before .before .put-bytes .ensures) w (c .before .before .end-line .ensures)
+    let w = subst (λ (x : ℤ). Put (put-bytes·returns c .put-bytes .last .0) (put-bytes·returns c .put-bytes .result) (decimal x)
+    (put-whole·returns c .put-whole .last .0) (put-whole·returns c .put-whole .result)) (toZ-ofZ w64 (start·returns c .args .z) (start·returns c .fits .z))
+    (put-whole·returns c .put-whole .ensures) in
+    put-line-parts (now (start·returns c .args .buf)) (put-bytes·returns c .put-bytes .last .0) (put-whole·returns c .put-whole .last .0)
+    (end-line·returns c .end-line .last .0) (now (start·returns c .args .key)) (start·returns c .args .at) (put-bytes·returns c .put-bytes .result)
+    (put-whole·returns c .put-whole .result) (end-line·returns c .end-line .result) (start·returns c .args .z) (put-bytes·returns c .put-bytes .ensures) w
+    (end-line·returns c .end-line .ensures)
 
 pub put-signed-line-spec : {M : Type 1} → statement M
 put-signed-line-spec =
