@@ -1,0 +1,169 @@
+-- Each arm gives its line of the table.
+use mathlib.Core.Path.{_∙_}
+use borrow.Author.Needs.{needs}
+use Rattle.refusals.proofs.Refusal.told.Statement.{statement}
+use Rattle.refusals.proofs.Refusal.told.Tie as tie
+use Rattle.refusals.proofs.Refusal.told.Reads as reads
+use Rattle.refusals.proofs.Refusal.told.Lts as lts
+use Rattle.refusals.proofs.Told.at.Reads as at-reads
+
+enum-told : tie.Need-enum-told
+enum-told c = search needs
+
+at-requires : tie.Need-at-requires
+at-requires c κs = search needs
+
+enum-told-2 : tie.Need-enum-told-2
+enum-told-2 c = search needs
+
+at-requires-2 : tie.Need-at-requires-2
+at-requires-2 c κs = search needs
+
+enum-told-3 : tie.Need-enum-told-3
+enum-told-3 c = search needs
+
+at-requires-3 : tie.Need-at-requires-3
+at-requires-3 c κs = search needs
+
+enum-told-4 : tie.Need-enum-told-4
+enum-told-4 c = search needs
+
+at-requires-4 : tie.Need-at-requires-4
+at-requires-4 c κs = search needs
+
+enum-known-self : tie.Need-enum-known-self
+enum-known-self c = search needs
+
+at-requires-5 : tie.Need-at-requires-5
+at-requires-5 c κs = search needs
+
+enum-known-self-2 : tie.Need-enum-known-self-2
+enum-known-self-2 c = search needs
+
+at-requires-6 : tie.Need-at-requires-6
+at-requires-6 c κs = search needs
+
+enum-known-self-3 : tie.Need-enum-known-self-3
+enum-known-self-3 c = search needs
+
+at-requires-7 : tie.Need-at-requires-7
+at-requires-7 c κs = search needs
+
+enum-known-self-4 : tie.Need-enum-known-self-4
+enum-known-self-4 c = search needs
+
+at-requires-8 : tie.Need-at-requires-8
+at-requires-8 c κs = search needs
+
+enum-known-self-5 : tie.Need-enum-known-self-5
+enum-known-self-5 c = search needs
+
+at-requires-9 : tie.Need-at-requires-9
+at-requires-9 c κs = search needs
+
+enum-known-self-6 : tie.Need-enum-known-self-6
+enum-known-self-6 c = search needs
+
+at-requires-10 : tie.Need-at-requires-10
+at-requires-10 c κs = search needs
+
+enum-known-self-7 : tie.Need-enum-known-self-7
+enum-known-self-7 c = search needs
+
+at-requires-11 : tie.Need-at-requires-11
+at-requires-11 c κs = search needs
+
+enum-known-self-8 : tie.Need-enum-known-self-8
+enum-known-self-8 c = search needs
+
+at-requires-12 : tie.Need-at-requires-12
+at-requires-12 c κs = search needs
+
+enum-told-5 : tie.Need-enum-told-5
+enum-told-5 c = search needs
+
+at-requires-13 : tie.Need-at-requires-13
+at-requires-13 c κs = search needs
+
+returns : tie.Need-returns
+returns c = c .at .ensures ∙ search needs
+
+returns-2 : tie.Need-returns-2
+returns-2 c = c .at2 .ensures ∙ search needs
+
+returns-3 : tie.Need-returns-3
+returns-3 c = c .at3 .ensures ∙ search needs
+
+returns-4 : tie.Need-returns-4
+returns-4 c = c .at4 .ensures ∙ search needs
+
+returns-5 : tie.Need-returns-5
+returns-5 c = c .at5 .ensures ∙ search needs
+
+returns-6 : tie.Need-returns-6
+returns-6 c = c .at6 .ensures ∙ search needs
+
+returns-7 : tie.Need-returns-7
+returns-7 c = c .at7 .ensures ∙ search needs
+
+returns-8 : tie.Need-returns-8
+returns-8 c = c .at8 .ensures ∙ search needs
+
+returns-9 : tie.Need-returns-9
+returns-9 c = c .at9 .ensures ∙ search needs
+
+returns-10 : tie.Need-returns-10
+returns-10 c = c .at10 .ensures ∙ search needs
+
+returns-11 : tie.Need-returns-11
+returns-11 c = c .at11 .ensures ∙ search needs
+
+returns-12 : tie.Need-returns-12
+returns-12 c = c .at12 .ensures ∙ search needs
+
+returns-13 : tie.Need-returns-13
+returns-13 c = c .at13 .ensures ∙ search needs
+
+pub told-spec : {M : Type 1} → statement M
+told-spec =
+    tie.close
+    (tie.spec
+    enum-told
+    at-requires
+    enum-told-2
+    at-requires-2
+    enum-told-3
+    at-requires-3
+    enum-told-4
+    at-requires-4
+    enum-known-self
+    at-requires-5
+    enum-known-self-2
+    at-requires-6
+    enum-known-self-3
+    at-requires-7
+    enum-known-self-4
+    at-requires-8
+    enum-known-self-5
+    at-requires-9
+    enum-known-self-6
+    at-requires-10
+    enum-known-self-7
+    at-requires-11
+    enum-known-self-8
+    at-requires-12
+    enum-told-5
+    at-requires-13
+    returns
+    returns-2
+    returns-3
+    returns-4
+    returns-5
+    returns-6
+    returns-7
+    returns-8
+    returns-9
+    returns-10
+    returns-11
+    returns-12
+    returns-13)

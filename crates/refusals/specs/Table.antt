@@ -1,0 +1,62 @@
+-- The table of refusals: each one's number, and the device and the place that it is given with. No other file has a number.
+-- The order of test is not the order of numbers: each call's own list of steps has it.
+-- Assumes nothing.
+use Prim.Native.Nat.{ℕ}
+use mathlib.Core.Path.{_≡_, refl}
+use mathlib.Core.Bool.{Bool, true, false, not}
+use mathlib.Core.List.{List, [], _∷_}
+use lib.Dec.{eqb}
+use Rattle.refusals.specs.declared.Refusal.{Refusal}
+use Rattle.refusals.specs.declared.Refusal.the-variants.{Intervals, Devices, Lengths, Mine, Kind, Misplaced, Check, Reading, Fuel, NoSheet, ShortBuffer, Line, Room}
+use Rattle.refusals.specs.declared.Verdict.{Verdict}
+use Rattle.refusals.specs.declared.Verdict.the-variants.{Clean, Refused}
+use Rattle.refusals.specs.declared.Told.{Told}
+
+abbrev pub told : ℕ → ℕ → ℕ → Told
+told number device place = record { number = number; device = device; place = place }
+
+abbrev pub toldOf : Refusal → Told
+toldOf Intervals = told 1 0 0
+toldOf Devices = told 2 0 0
+toldOf Lengths = told 3 0 0
+toldOf Mine = told 4 0 0
+toldOf (Kind device) = told 5 device 0
+toldOf (Misplaced device) = told 6 device 0
+toldOf (Check device check) = told 7 device check
+toldOf (Reading device interval) = told 8 device interval
+toldOf (Fuel line) = told 9 0 line
+toldOf (NoSheet offset) = told 10 0 offset
+toldOf (ShortBuffer needed) = told 11 0 needed
+toldOf (Line line) = told 12 0 line
+toldOf Room = told 13 0 0
+
+-- where nothing is refused
+abbrev pub nothing : Told
+nothing = told 0 0 0
+
+abbrev pub toldBy : Verdict → Told
+toldBy Clean = nothing
+toldBy (Refused r) = toldOf r
+
+-- every refusal, in the table's order; what a refusal is given with does not matter here
+abbrev all : List Refusal
+all =
+    Intervals ∷ Devices ∷ Lengths ∷ Mine ∷ Kind 0 ∷ Misplaced 0 ∷ Check 0 0 ∷ Reading 0 0 ∷ Fuel 0
+    ∷ NoSheet 0 ∷ ShortBuffer 0 ∷ Line 0 ∷ Room ∷ []
+
+lacks : ℕ → List Refusal → Bool
+lacks number [] = true
+lacks number (r ∷ rs) = elim (eqb number (toldOf r .number)) [ true ↦ false | false ↦ lacks number rs ]
+
+distinct : List Refusal → Bool
+distinct [] = true
+distinct (r ∷ rs) = elim (lacks (toldOf r .number) rs) [ true ↦ distinct rs | false ↦ false ]
+
+-- no number is used twice, and none is 0
+numbers-differ : distinct all ≡ true
+unfolding distinct lacks
+numbers-differ = refl
+
+none-is-zero : lacks 0 all ≡ true
+unfolding lacks
+none-is-zero = refl
