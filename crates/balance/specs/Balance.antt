@@ -1,4 +1,4 @@
--- From a device's methane litres to tonnes (document 01, "From used value to tonnes").
+-- From a device's methane litres to tonnes (rules 9.4 to 9.14).
 -- Assumes nothing.
 use Prim.Native.Nat.{ℕ, _+_, _-_, _*_, _/_, _≤_}
 use mathlib.Core.Path.{_≡_, refl}
@@ -8,31 +8,31 @@ use Rattle.rows.specs.Rows.{sumTo}
 use Rattle.protocol.specs.Numbers.{protocol, methaneMg, carbonMg}
 use Rattle.protocol.specs.Kinds.{thousandthsOf}
 
--- a / b rounded up
+-- rule 1.5: ceil (a / b)
 abbrev pub ceilDiv : ℕ → ℕ → ℕ
 ceilDiv a b = (a + (b - 1)) / b
 
--- "destroyed = Q × kind's number / 1,000 rounded down"
+-- rule 9.4: the litres of Q that a device of this kind destroys, rounded down
 unfoldable pub destroyedOf : ℕ → ℕ → ℕ
 destroyedOf kind q = q * thousandthsOf kind / 1000
 
--- "uncombusted = Q × (1,000 - kind's number) / 1,000 rounded up"
+-- rule 9.5: the litres of Q that it leaves unburnt, rounded up
 unfoldable pub uncombustedOf : ℕ → ℕ → ℕ
 uncombustedOf kind q = ceilDiv (q * (1000 - thousandthsOf kind)) 1000
 
--- "Baseline mg = 14,007 Q (equation 3)"
+-- rule 9.7: baseline mg, U for each litre of Q (equation 3)
 unfoldable pub baselineMg : ℕ → ℕ
 baselineMg q = methaneMg * q
 
--- "CO2 mg = 7,337 × destroyed / 4 rounded up"
+-- rule 9.8: CO2 mg, C for each destroyed litre, rounded up
 unfoldable pub carbonDioxideMg : ℕ → ℕ
 carbonDioxideMg destroyed = ceilDiv (carbonMg * destroyed) (protocol .«carbon_under»)
 
--- "uncombusted mg = 14,007 × uncombusted"
+-- rule 9.9: uncombusted mg, U for each uncombusted litre
 unfoldable pub uncombustedMg : ℕ → ℕ
 uncombustedMg uncombusted = methaneMg * uncombusted
 
--- "Fuel mg = quantity × factor, summed": fuel lines 0 up to, and without, lines
+-- rule 9.10: fuel mg, quantity times factor summed over fuel lines 0 up to, and without, lines
 unfoldable pub fuelMg : ℕ → (ℕ → ℕ) → (ℕ → ℕ) → ℕ
 fuelMg lines quantity factor = sumTo lines (λ k. quantity k * factor k)
 
@@ -40,13 +40,15 @@ fuelMg lines quantity factor = sumTo lines (λ k. quantity k * factor k)
 abbrev pub overDevices : (ℕ → ℕ → ℕ) → ℕ → (ℕ → ℕ) → (ℕ → ℕ) → ℕ
 overDevices f devices kind q = sumTo devices (λ d. f (kind d) (q d))
 
--- CO2 is "rounded up per device" and then summed
+-- rule 9.11: baseline mg over all devices
 unfoldable pub baselineAll : ℕ → (ℕ → ℕ) → (ℕ → ℕ) → ℕ
 baselineAll = overDevices (λ kind q. baselineMg q)
 
+-- rule 9.8: CO2 mg over all devices, rounded for each of them and then summed
 unfoldable pub carbonDioxideAll : ℕ → (ℕ → ℕ) → (ℕ → ℕ) → ℕ
 carbonDioxideAll = overDevices (λ kind q. carbonDioxideMg (destroyedOf kind q))
 
+-- rule 9.11: uncombusted mg over all devices
 unfoldable pub uncombustedAll : ℕ → (ℕ → ℕ) → (ℕ → ℕ) → ℕ
 uncombustedAll = overDevices (λ kind q. uncombustedMg (uncombustedOf kind q))
 
@@ -54,10 +56,11 @@ uncombustedAll = overDevices (λ kind q. uncombustedMg (uncombustedOf kind q))
 unfoldable pub reductionOf : ℕ → ℕ → ℤ
 reductionOf credit debit = subℕ credit debit
 
--- "Reduction mg = baseline - CO2 - uncombusted - fuel over everything, signed (equation 1)"
+-- rule 9.11: reduction mg, the baseline less CO2, uncombusted and fuel, signed (equation 1)
 abbrev pub equation1 : ℕ → ℕ → ℕ → ℕ → ℤ
 equation1 baseline co2 uncombusted fuel = reductionOf baseline (co2 + uncombusted + fuel)
 
+-- rule 9.11: of all devices, from each one's kind and methane litres
 unfoldable pub reductionAll : ℕ → (ℕ → ℕ) → (ℕ → ℕ) → ℕ → ℤ
 reductionAll devices kind q fuel = equation1 (baselineAll devices kind q) (carbonDioxideAll devices kind q) (uncombustedAll devices kind q) fuel
 
@@ -65,21 +68,22 @@ reductionAll devices kind q fuel = equation1 (baselineAll devices kind q) (carbo
 abbrev pub tonne : ℕ
 tonne = 1000000000
 
--- "Tonnes = reduction / 1,000,000,000 rounded towards minus infinity"
+-- rule 9.12: tonnes, rounded towards minus infinity
 unfoldable pub tonnesOf : ℤ → ℤ
 tonnesOf reduction = shrZ reduction tonne
 
--- what that means, for negative reductions too: the greatest whole number of tonnes that is not above the reduction
+-- rule 9.12, said by what floor means (rule 1.5): the greatest whole number of tonnes that is not above the reduction,
+-- a negative one too
 pub record IsTonnes (reduction t : ℤ) : Type 0 where
   pub not-above : (t *ℤ pos tonne) ≤ℤ reduction
   pub greatest : (s : ℤ) → (s *ℤ pos tonne) ≤ℤ reduction → s ≤ℤ t
 
--- "credits = tonnes, or 0 if negative"
+-- rule 9.13: credits are the tonnes, or 0 if these are negative
 unfoldable pub creditsOf : ℤ → ℕ
 creditsOf (pos n) = n
 creditsOf (negsuc n) = 0
 
--- the most methane litres that a device can have in a year, 35,136 intervals of 11,168,127
+-- rule 9.14: the most methane litres that a device can have, 35,136 intervals of 11,168,127
 abbrev pub deviceMost : ℕ
 deviceMost = 392403310272
 
@@ -94,7 +98,7 @@ pub record Moderate (credit debit : ℕ) : Type 0 where
   pub credit-most : credit ≤ 4611686018427387904
   pub debit-most : debit ≤ 4611686018427387904
 
--- "Q 50,000, kind 2: 49,750 and 250; CO2 91,253,938 mg"
+-- rule 15.1: 50,000 l in an enclosed flare
 destroyed-example : destroyedOf 2 50000 ≡ 49750
 unfolding destroyedOf
 destroyed-example = refl
@@ -107,7 +111,7 @@ carbon-example : carbonDioxideMg 49750 ≡ 91253938
 unfolding carbonDioxideMg
 carbon-example = refl
 
--- "reduction -94,405,688 mg: tonnes -1, credits 0"
+-- rule 15.1: a reduction of -94,405,688 mg
 tonnes-example : tonnesOf (negsuc 94405687) ≡ negsuc 0
 unfolding tonnesOf
 tonnes-example = refl

@@ -1,5 +1,4 @@
--- The sheet's figures: "counted, replaced (outcomes 1 and 2, part of counted) and excluded are device-intervals; intervals and
--- devices are N and D; the litre and mg lines are sums over devices, fuel once".
+-- The sheet's figures (rule 11.3): N and D, counts of device-intervals, sums over devices, and the fuel once.
 -- Assumes nothing.
 use Prim.Native.Nat.{ℕ}
 use lib.ListN.{length, getD}
@@ -16,14 +15,15 @@ use Rattle.drainage_devices.specs.declared.Totals.{Totals}
 abbrev pub lentIn : Call → Lent
 lentIn c = record { intervals = c .intervals; kinds = c .kinds; checks = c .checks; series = c .series }
 
--- "fuel once"
+-- rule 9.10: fuel mg, over all fuel lines and once
 unfoldable pub fuelSum : Fuel → ℕ
 fuelSum f = fuelMg (length (f .quantity)) (λ k. getD (f .quantity) k 0) (λ k. getD (f .factor) k 0)
 
 abbrev pub fuelIn : Call → ℕ
 fuelIn c = fuelSum (c .fuel)
 
--- the sheet's lines, in order, from the sums over devices and the fuel
+-- rule 11.3: the sheet's lines, in order, from N, D, the sums over devices and the fuel. Reduction, tonnes and credits
+-- are those of rules 9.11 to 9.13.
 unfoldable pub figuresFrom : ℕ → ℕ → Totals → ℕ → Figures
 figuresFrom intervals devices t fuel =
     let reduction : ℤ = equation1 (t .«baseline_mg») (t .«co2_mg») (t .«uncombusted_mg») fuel in
@@ -45,5 +45,6 @@ figuresFrom intervals devices t fuel =
       credits = creditsOf (tonnesOf reduction);
     }
 
+-- rule 11.3: the figures of an accepted call
 unfoldable pub figuresOf : Call → Figures
 figuresOf c = figuresFrom (c .intervals) (c .devices) (totalsOf (lentIn c) (c .devices)) (fuelIn c)

@@ -1,4 +1,4 @@
--- The numbers that document 01 marks (P), as one table: what the definitions give, and what the document says.
+-- rule 15.1: numbers on both sides of a limit, as one table: what the definitions give, and what the rule says.
 -- Assumes nothing.
 use Prim.Native.Nat.{ℕ}
 use mathlib.Core.Path.{_≡_, refl}
@@ -53,7 +53,7 @@ table =
     ∷ says (carbonDioxideMg 49750) 91253938
     ∷ []
 
--- the one statement: every line agrees
+-- rule 15.1: the one statement, that every line agrees
 marked-numbers : agree table ≡ true
 unfolding table agree says sameℤ drifted litresOf methaneOf correctedAt keptOr corrected stretchDrift together meanOf limitOf tallyOf meets greatestUpTo tonnesOf creditsOf destroyedOf uncombustedOf carbonDioxideMg
 marked-numbers = refl

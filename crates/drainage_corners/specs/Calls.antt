@@ -53,7 +53,7 @@ one mine kind status quantity factor =
       factor = factor;
     })
 
--- document 01's worked example: an enclosed flare, and 700 kg of CO2 from fuel
+-- rule 14.1: the worked example, an enclosed flare and 700 kg of CO2 from fuel
 abbrev pub worked : Call
 worked = one 0 2 1 (1000 ∷ []) (700000 ∷ [])
 

@@ -60,7 +60,8 @@ excluded fuel reduction tonnes =
       credits = 0;
     }
 
--- the worked example's sheet; pipeline injection; reductions of 0, -1 mg, exactly -1 tonne, and -1 tonne and 1 mg
+-- rule 14.2: the worked example's sheet; pipeline injection; and rule 9.12 on reductions of 0, -1 mg, exactly -1 tonne,
+-- and -1 tonne and 1 mg
 sheets : (figuresOf worked ≡ burnt 2985000 15000 5475236250 210105000 700000000 35635658750 35)
     × (figuresOf injected ≡ burnt 2880000 120000 5282640000 1680840000 0 35057520000 35)
     × (figuresOf (stopped [] []) ≡ excluded 0 (pos 0) (pos 0))
@@ -70,7 +71,7 @@ sheets : (figuresOf worked ≡ burnt 2985000 15000 5475236250 210105000 70000000
 unfolding figuresOf figuresFrom fuelSum totalsOf countedIn replacedIn excludedIn countIn litresIn recordsOf deviceMethane litresAt litresFor methaneLitres methaneOf litresOf outcomeAt outcomeOf flowUsedAt contentUsedAt valueAt correctedFlow correctedContent instrumentOf correctedAt keptOr corrected stretchDrift together replacementAt replacementOf gapStart gapEnd run whole usable widthOf ruleOf tallyOf meanOf limitOf meets greatestUpTo windowValues destroyedOf uncombustedOf baselineMg carbonDioxideMg uncombustedMg fuelMg baselineAll carbonDioxideAll uncombustedAll reductionOf tonnesOf creditsOf
 sheets = (refl, refl, refl, refl, refl, refl)
 
--- of 33 intervals one is replaced and all are counted
+-- rule 11.3: of 33 intervals one is replaced and all are counted
 mended : (figuresOf (gapped 16) .counted ≡ 33) × (figuresOf (gapped 16) .replaced ≡ 1) × (figuresOf (gapped 16) .excluded ≡ 0)
 unfolding figuresOf figuresFrom fuelSum totalsOf countedIn replacedIn excludedIn countIn litresIn recordsOf deviceMethane litresAt litresFor methaneLitres methaneOf litresOf outcomeAt outcomeOf flowUsedAt contentUsedAt valueAt correctedFlow correctedContent instrumentOf correctedAt keptOr corrected stretchDrift together replacementAt replacementOf gapStart gapEnd run whole usable widthOf ruleOf tallyOf meanOf limitOf meets greatestUpTo windowValues destroyedOf uncombustedOf baselineMg carbonDioxideMg uncombustedMg fuelMg baselineAll carbonDioxideAll uncombustedAll reductionOf tonnesOf creditsOf
 mended = (refl, refl, refl)

@@ -1,4 +1,4 @@
--- The table of gaps at its borders: w values of 0 before the gap and w of 2,000 after it.
+-- The table of gaps (rule 7.5) at its borders: w values of 0 before the gap and w of 2,000 after it.
 -- Assumes nothing.
 use Prim.Native.Nat.{ℕ}
 use mathlib.Core.Path.{_≡_, refl}
@@ -18,7 +18,8 @@ around w gap = replicate w 0 ++ (replicate gap mark ++ replicate w 2000)
 abbrev replaced : ℕ → ℕ → ℕ → Replacement
 replaced w gap i = replacementAt (around w gap) (around w gap) i
 
--- 16 on either side up to 23, 96 up to 95, 288 up to 672, none from 673; a window that is one short is not whole
+-- rule 7.5: 16 on either side up to 23, 96 up to 95, 288 up to 672, none from 673; rule 7.2: a window that is one short
+-- is not whole
 borders : (replaced 16 23 27 ≡ Value 1000) × (replaced 96 24 108 ≡ Value 881) × (replaced 96 95 143 ≡ Value 881) × (replaced 288 96 336 ≡ Value 918)
     × (replaced 288 672 624 ≡ Value 918) × (replaced 288 673 300 ≡ TooLong) × (replaced 287 672 300 ≡ NotWhole)
 unfolding replacementAt replacementOf gapStart gapEnd run whole usable widthOf ruleOf tallyOf meanOf limitOf meets greatestUpTo windowValues

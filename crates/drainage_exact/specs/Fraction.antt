@@ -1,5 +1,4 @@
--- Fractions: "a whole numerator over a whole denominator above 0, neither limited in size, added and compared by
--- multiplying across".
+-- rule 10.2: fractions of whole numbers of any size, added and compared by multiplying across.
 -- Assumes nothing.
 use Prim.Native.Nat.{ℕ, zero, suc, _*_, _<_}
 use mathlib.Core.Path.{_≡_, refl}
@@ -10,7 +9,7 @@ pub record Fraction : Type 0 where
   pub num : ℤ
   pub den : ℕ
 
--- the denominator is above 0
+-- rule 10.2: the denominator is above 0
 pub record Proper (x : Fraction) : Type 0 where
   pub above-zero : 0 < x .den
 
@@ -25,6 +24,7 @@ whole z = record { num = z; den = 1 }
 infixl 6 _+ᶠ_ _-ᶠ_
 infixl 7 _*ᶠ_
 infix 4 _≤ᶠ_ _‹ᶠ_
+-- rule 10.2: added and subtracted by multiplying across
 abbrev pub _+ᶠ_ : Fraction → Fraction → Fraction
 x +ᶠ y = record { num = x .num *ℤ pos (y .den) +ℤ y .num *ℤ pos (x .den); den = x .den * y .den }
 
@@ -39,11 +39,11 @@ abbrev pub sumᶠ : ℕ → (ℕ → Fraction) → Fraction
 sumᶠ zero f = whole (pos 0)
 sumᶠ (suc n) f = sumᶠ n f +ᶠ f n
 
--- x is at most y, of two proper fractions
+-- rule 10.2: x is at most y, of two proper fractions
 pub record _≤ᶠ_ (x y : Fraction) : Type 0 where
   pub across : (x .num *ℤ pos (y .den)) ≤ℤ (y .num *ℤ pos (x .den))
 
--- x is below y, of two proper fractions
+-- rule 10.2: x is below y, of two proper fractions
 pub record _‹ᶠ_ (x y : Fraction) : Type 0 where
   pub across : (x .num *ℤ pos (y .den)) <ℤ (y .num *ℤ pos (x .den))
 

@@ -1,4 +1,4 @@
-// The sheet's figures, in the order of its lines (document 01, "The sheet and the record file").
+// The sheet's figures, in the order of its lines (rule 11.3) and in their widths (rule 11.4).
 // Quantification makes them and the sheet's text carries them; neither knows the other.
 pub struct Figures {
     pub intervals: u64,

@@ -8,20 +8,19 @@ use lib.Dec.{leb, eqb}
 use lib.ListN.{getD}
 use Rattle.rows.specs.Rows.{both}
 
--- "1 open flare 960; 2 enclosed flare 995; 3 engine 936; 4 boiler 980; 5 turbine 995; 6 upgrade and pipeline injection 960";
--- what is no kind destroys nothing
+-- rule 3.6: k of each kind, the thousandths of the methane that it destroys; what is no kind destroys nothing
 abbrev pub thousandthsOf : ℕ → ℕ
 thousandthsOf kind = getD (0 ∷ 960 ∷ 995 ∷ 936 ∷ 980 ∷ 995 ∷ 960 ∷ []) kind 0
 
--- "kind not 1..6" is refused
+-- rule 4.5: the kinds are 1..6
 abbrev pub isKind : ℕ → Bool
 isKind kind = both (leb 1 kind) (leb kind 6)
 
--- "Mine: 0 underground, 1 surface"
+-- rule 3.5: the mines are 0, underground, and 1, surface; rule 4.4 refuses any other
 abbrev pub isMine : ℕ → Bool
 isMine mine = leb mine 1
 
--- kind 6 is "surface mine only"
+-- rule 4.6: kind 6 at an underground mine
 abbrev pub misplaced : ℕ → ℕ → Bool
 misplaced mine kind = both (eqb kind 6) (eqb mine 0)
 

@@ -57,7 +57,8 @@ pub record Put (old : List ℕ) (start : ℕ) (w new : List ℕ) (stop : ℕ) : 
   pub stops : stop ≡ start + length w
   pub is : new ≡ sets old start w
 
--- w stands at the buffer's start, and no byte after its end has changed. `part` says that n is the length of that part.
+-- rule 11.9: w stands at the buffer's start, n is its length, and no byte after its end has changed. `part` says that n
+-- is the length of the buffer's part that holds it.
 pub record Leads (w old new : List ℕ) (n : ℕ) : Type 0 where
   pub size : n ≡ length w
   pub room : n ≤ length old

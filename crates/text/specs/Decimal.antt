@@ -1,4 +1,4 @@
--- Decimals (document 01: "decimals without leading zeros or plus; minus zero is refused").
+-- Decimal numbers (rule 11.2), and ranges of them.
 use Prim.Native.Nat.{ℕ, zero, suc, _+_, _/_, _%_, _≤_, _<_}
 use mathlib.Core.Path.{_≡_, refl}
 use mathlib.Core.Bool.{Bool, true, false}
@@ -15,10 +15,11 @@ digitsBy zero small v = []
 digitsBy (suc fuel) true v = (48 + v) ∷ []
 digitsBy (suc fuel) false v = digitsBy fuel (ltb (v / 10) 10) (v / 10) ++ ((48 + v % 10) ∷ [])
 
+-- rule 11.2: no leading zero, 0 itself being one digit, and no plus.
 unfoldable pub dec : ℕ → List ℕ
 dec v = digitsBy (suc v) (ltb v 10) v
 
--- `negsuc n` is -(n + 1): so there is no minus zero.
+-- rule 11.2: a minus directly before the digits. `negsuc n` is -(n + 1): so there is no minus zero.
 abbrev pub decimal : ℤ → List ℕ
 decimal (pos n) = dec n
 decimal (negsuc n) = 45 ∷ dec (suc n)

@@ -45,9 +45,8 @@ pub record Broken (L : List ℕ → Type 0) (t : List ℕ) (start k : ℕ) : Typ
   pub begins : Started L read
   pub ends : k < length t → Begun L (read ++ (getD t k 0 ∷ [])) → ⊥
 
--- The whole of t is refused at k (document 01: "the byte offset of the first byte that no sheet could have there
--- (the length, if text stops short)"): some text of L begins with the first k bytes, none with the first k + 1
--- where there is a byte at k, and t is no text of L.
+-- rule 11.7, with the sheets for L: t is no text of L, some text of L begins with the first k bytes of t, and none with
+-- the first k + 1. If t only stops short there is no byte at k, and k is t's length.
 pub record RefusedAt (L : List ℕ → Type 0) (t : List ℕ) (k : ℕ) : Type 0 where
   pub within : k ≤ length t
   pub begins : Begun L (take k t)

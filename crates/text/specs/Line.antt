@@ -1,4 +1,4 @@
--- Lines key=value ended by byte 10, in a fixed order (document 01: "Both are key=value lines ended by byte 10, in fixed order").
+-- Lines of a key, a number and byte 10, in a fixed order (rule 11.1).
 use Prim.Native.Nat.{ℕ}
 use mathlib.Core.Path.{_≡_, refl}
 use mathlib.Core.List.{List, [], _∷_, _++_}
@@ -12,14 +12,14 @@ pub record Entry : Type 0 where
   pub key : List ℕ
   pub range : Range
 
--- The text of a line.
+-- rule 11.1: the text of a line, its key with the `=`, its number and byte 10.
 abbrev pub lineOf : List ℕ → ℤ → List ℕ
 lineOf key z = key ++ (decimal z ++ (10 ∷ []))
 
 abbrev pub line : List ℕ → Range → Form ℤ
 line key r = record { text = lineOf key; takes = Fit r }
 
--- The lines of a table, one value a line.
+-- rule 11.1: the lines of a table in its order, one value a line.
 abbrev pub linesOf : List Entry → List ℤ → List ℕ
 linesOf [] zs = []
 linesOf (e ∷ es) [] = []

@@ -1,5 +1,5 @@
-// Decimals and key=value lines, read from a text. The records' and the sheet's texts are made of these parts; what a form is and what a refusal
-// means is in specs/Form.antt. Writing them is in crates/writing.
+// Decimal numbers (rule 11.2) and key=value lines (rule 11.1), read from a text. The records' and the sheet's texts are
+// made of these parts; what a form is and what a refusal means is in specs/Form.antt. crates/writing writes them.
 ghost use Prim.Native.Nat.{_+_, _*_, _^_, _≤_, _<_};
 ghost use mathlib.Core.Path.{_≡_};
 ghost use lib.Dec.{ltb};

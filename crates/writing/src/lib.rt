@@ -1,4 +1,5 @@
-// Decimals and key=value lines, written into a lent buffer. Their forms are in crates/text, whose readers read them back.
+// Decimal numbers (rule 11.2) and key=value lines (rule 11.1), written into a lent buffer. Their forms are in
+// crates/text, whose readers read them back.
 ghost use Prim.Native.Nat.{_+_, _^_, _<_};
 ghost use mathlib.Core.Path.{_≡_};
 ghost use mathlib.Core.List.{[], _∷_};
