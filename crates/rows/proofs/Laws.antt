@@ -13,6 +13,7 @@ use lib.Dec.{eqb}
 use lib.ListN.{length, take, drop, getD, set, length-append, length-take, length-drop, List·getD-append, take-append-drop}
 use lib.Seq.{take-at, drop-at, getD-append-seam, getD-append-add, getD-at, set-at, drop-cons, drop-drop, drop-append-add, take-length, drop-length, take-append-add, ext-getD, take-append-le}
 use borrow.Author.Tests.{eq-eqb, ne-eqb}
+use Rattle.rows.proofs.Truth.{clash}
 use Rattle.rows.specs.Rows.{pick, both, build, join, cut, put, every, first, FirstOf}
 
 module _ {A : Type 0} where
@@ -165,9 +166,6 @@ every-fails n p k h e = go (every n p) refl
 -- an order from the absurdity of its contrary
 le-unless : (r s : ℕ) → (s < r → ⊥) → r ≤ s
 le-unless r s f = elim (decLe r s) [ yes h ↦ h | no n ↦ absurd (f (lt-of-not-le n)) ]
-
-clash : {b : Bool} → b ≡ true → b ≡ false → ⊥
-clash p q = let z : _≡_ {A = ℕ} 0 1 = cc in omega arith
 
 no-later : (n : ℕ) (p : ℕ → Bool) (r s : ℕ) → FirstOf n p r → FirstOf n p s → r ≤ s
 no-later n p r s x y =
