@@ -1,5 +1,5 @@
 // The replacement of every gap of one series, each gap found and worked out once.
-ghost use Prim.Native.Nat.{ℕ, _+_, _-_, _*_, _/_, _≤_, _<_};
+ghost use Prim.Native.Nat.{ℕ, _+_, _-_, _≤_, _<_};
 ghost use mathlib.Core.Path.{_≡_};
 ghost use mathlib.Core.Bool.{true};
 ghost use lib.ListN.{length};
@@ -20,7 +20,7 @@ pub enum Replacement {
 
 // The intervals in each window of a gap. Ruled out: a border of the table off by one; the last class for every gap.
 fn width(gap: usize) -> usize
-    ensures { λ r. ⌜ (r ≡ widthOf gap) × (r ≤ 288) × (0 < r) × (16 * (r / 16) ≡ r) ⌝ }
+    ensures { λ r. ⌜ (r ≡ widthOf gap) × (r ≤ 288) × (0 < r) ⌝ }
 {
     if gap <= 23 {
         return 16;
@@ -53,7 +53,7 @@ pub fn replace_gap(reading: &[u16], used: &[u16], a: usize, e: usize) -> Replace
         return Replacement::TooLong;
     }
     let w = width(missing);
-    if !drainage_runs::windows_whole(reading, a, e, w / 16) {
+    if !drainage_runs::windows_whole(reading, a, e, w) {
         return Replacement::NotWhole;
     }
     let first = a - w;

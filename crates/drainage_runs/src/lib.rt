@@ -1,5 +1,5 @@
 // Gaps of one series: where a run of missing readings ends, and whether its two windows are whole.
-ghost use Prim.Native.Nat.{ℕ, _+_, _*_, _≤_, _<_};
+ghost use Prim.Native.Nat.{ℕ, _+_, _≤_, _<_};
 ghost use mathlib.Core.Path.{_≡_};
 ghost use lib.ListN.{length};
 ghost use Rattle.rows.specs.Rows.{every};
@@ -40,13 +40,12 @@ pub fn measured(reading: &[u16], i: usize) -> bool
     all
 }
 
-// The look over the two windows of a gap, each of so many blocks of 16, left at the first block with an entry that cannot be used.
+// The look over the two windows of a gap, w entries each, left at the first entry that cannot be used (rule 7.3).
 // Ruled out: one window looked at only; a window that is whole though its last entry is missing.
-pub fn windows_whole(reading: &[u16], a: usize, e: usize, blocks: usize) -> bool
-    requires { ⌜ (e + 16 * blocks < 4294967296) × (a ≤ e) × (e ≤ length (now reading)) ⌝ }
-    ensures { λ r. ⌜ r ≡ whole (now (reading .entry)) a e (16 * blocks) ⌝ }
+pub fn windows_whole(reading: &[u16], a: usize, e: usize, w: usize) -> bool
+    requires { ⌜ (e + w < 4294967296) × (a ≤ e) × (e ≤ length (now reading)) ⌝ }
+    ensures { λ r. ⌜ r ≡ whole (now (reading .entry)) a e w ⌝ }
 {
-    let w = 16 * blocks;
     if a < w {
         return false;
     }
@@ -58,8 +57,8 @@ pub fn windows_whole(reading: &[u16], a: usize, e: usize, blocks: usize) -> bool
     let mut side: usize = 0;
     'look: while side < 2 {
         let mut k = 0;
-        while k < blocks {
-            if !measured(reading, from + 16 * k) {
+        while k < w {
+            if reading[from + k] == MISSING {
                 all = false;
                 break 'look;
             }

@@ -1,3 +1,4 @@
+-- The replacement of one gap, by the cases of the code.
 use Prim.Native.Nat.{_-_}
 use mathlib.Core.Path.{_≡_, sym, ap, _∙_}
 use native.Mathlib.Omega.{arith}
@@ -9,15 +10,6 @@ use Rattle.drainage_gaps.proofs.replace_gap.Statement.{statement}
 use Rattle.drainage_gaps.proofs.replace_gap.Tie as tie
 mod PlaceNames
 use PlaceNames.*
-
--- the blocks of 16 that are looked at make up the windows
-looked : (c : tie.After-windows-whole)
-    → c .windows-whole .result
-    ≡ whole (start·looked c .args .reading .now) (start·looked c .args .a)
-    (start·looked c .args .e) (width·looked c .width .result)
-looked c =
-    let g = start·looked c .args in
-    c .windows-whole .ensures ∙ ap (whole (g .reading .now) (g .a) (g .e)) (width·looked c .width .ensures .3)
 
 -- what is known once they are found whole
 ready : (c : tie.Else2)
@@ -32,7 +24,7 @@ ready c =
       is-width = width·ready c .width .ensures .0;
       few = width·ready c .width .ensures .1;
       some = width·ready c .width .ensures .2;
-      is-whole = sym (looked (windows-whole·ready c)) ∙ not-false _ (c .if2 .left);
+      is-whole = sym (windows-whole·ready c .windows-whole .ensures) ∙ not-false _ (c .if2 .left);
     }
 
 sub-missing : tie.Need-sub-missing
@@ -49,13 +41,14 @@ width-requires c κs = search needs
 windows-whole-requires : tie.Need-windows-whole-requires
 windows-whole-requires c κs =
     let p = start·windows-whole-requires c .pre in
-    (omega (arith, p .1, p .2, c .width .ensures .1, c .width .ensures .3), omega (arith, p .0), p .1)
+    (omega (arith, p .1, p .2, c .width .ensures .1), omega (arith, p .0), p .1)
 
 returns-2 : tie.Need-returns-2
 returns-2 c =
     let g = start·returns-2 c .args in
     replaced-not (g .reading .now) (g .used .now) (g .a) (g .e) (omega (arith, if1·returns-2 c .if1 .left))
-    (sym (looked (windows-whole·returns-2 c) ∙ ap (whole (g .reading .now) (g .a) (g .e)) (width·returns-2 c .width .ensures .0)) ∙ not-true _ (c .if2 .taken))
+    (sym (windows-whole·returns-2 c .windows-whole .ensures ∙ ap (whole (g .reading .now) (g .a) (g .e)) (width·returns-2 c .width .ensures .0)) ∙ not-true _
+    (c .if2 .taken))
 
 sub-first : tie.Need-sub-first
 sub-first c = ready-before (ready c)
@@ -90,8 +83,8 @@ part-mean-of-32-end-2 c = omega (arith, ready-after (ready (if2·part-mean-of-32
 mean-of-32-requires : tie.Need-mean-of-32-requires
 mean-of-32-requires c κs = ready-16 (ready (if2·mean-of-32-requires c)) (omega (arith, if3·mean-of-32-requires c .if3 .taken))
 
-cast-t24 : tie.Need-cast-t24
-cast-t24 c = record { fits = omega (arith, c .mean-of-32 .ensures .1) }
+cast-t23 : tie.Need-cast-t23
+cast-t23 c = search needs
 
 returns-3 : tie.Need-returns-3
 returns-3 c = ready-mean (ready (if2·returns-3 c)) (omega (arith, if3·returns-3 c .if3 .taken)) (c .mean-of-32 .ensures .0)
@@ -162,7 +155,7 @@ replace-gap-spec =
     part-mean-of-32-start-2
     part-mean-of-32-end-2
     mean-of-32-requires
-    cast-t24
+    cast-t23
     returns-3
     mul-tally-of
     sub-tally-of

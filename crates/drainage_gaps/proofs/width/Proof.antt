@@ -1,4 +1,4 @@
-use mathlib.Core.Path.{refl, sym}
+use mathlib.Core.Path.{sym}
 use native.Mathlib.Omega.{arith}
 use borrow.Author.Tests.{le-leb, lt-leb}
 use Rattle.drainage_gaps.specs.Gaps.{widthOf}
@@ -8,7 +8,7 @@ use Rattle.drainage_gaps.proofs.width.Tie as tie
 returns : tie.Need-returns
 unfolding widthOf
 returns c =
-    (sym (simp (le-leb (c .before .args .gap) 23 (omega (arith, c .if1 .taken)))), omega arith, omega arith, refl)
+    (sym (simp (le-leb (c .before .args .gap) 23 (omega (arith, c .if1 .taken)))), omega arith, omega arith)
 
 returns-2 : tie.Need-returns-2
 unfolding widthOf
@@ -17,7 +17,6 @@ returns-2 c =
       sym (simp (lt-leb g 23 (omega (arith, c .before .if1 .left)), le-leb g 95 (omega (arith, c .if2 .taken)))),
       omega arith,
       omega arith,
-      refl,
     )
 
 returns-3 : tie.Need-returns-3
@@ -27,7 +26,6 @@ returns-3 c =
       sym (simp (lt-leb g 23 (omega (arith, c .before .if1 .left)), lt-leb g 95 (omega (arith, c .if2 .left)))),
       omega arith,
       omega arith,
-      refl,
     )
 
 pub width-spec : {M : Type 1} → statement M

@@ -7,14 +7,11 @@ start·returns c = c .before .before .before
 abbrev pub start·windows-whole-requires : tie.After-width → tie.Start
 start·windows-whole-requires c = c .before .before .before .before
 
-abbrev pub start·looked : tie.After-windows-whole → tie.Start
-start·looked c = start·windows-whole-requires (c .before)
-
 abbrev pub start·returns-2 : tie.Then2 → tie.Start
-start·returns-2 c = start·looked (c .before)
+start·returns-2 c = start·windows-whole-requires (c .before .before)
 
 abbrev pub start·ready : tie.Else2 → tie.Start
-start·ready c = start·looked (c .before)
+start·ready c = start·windows-whole-requires (c .before .before)
 
 abbrev pub start·part-mean-of-32-end-2 : tie.After-mean-of-32-arg → tie.Start
 start·part-mean-of-32-end-2 c = start·ready (c .before .before)
@@ -28,14 +25,11 @@ if1·returns-2 c = c .before .before .before
 abbrev pub if1·ready : tie.Else2 → tie.Else1
 if1·ready c = c .before .before .before
 
-abbrev pub width·looked : tie.After-windows-whole → tie.After-width
-width·looked c = c .before
-
 abbrev pub width·returns-2 : tie.Then2 → tie.After-width
-width·returns-2 c = width·looked (c .before)
+width·returns-2 c = c .before .before
 
 abbrev pub width·ready : tie.Else2 → tie.After-width
-width·ready c = width·looked (c .before)
+width·ready c = c .before .before
 
 abbrev pub windows-whole·returns-2 : tie.Then2 → tie.After-windows-whole
 windows-whole·returns-2 c = c .before
@@ -83,7 +77,7 @@ tally-of·returns-4 c = tally-of·cast-t35 c
 --   After-shared-slice-known/shared-slice-known After-shared-slice-known2/shared-slice-known2 ?sub-missing Then1/if1 ?returns Else1/if1 ?width-requires
 --   After-width/width ?windows-whole-requires After-windows-whole/windows-whole Then2/if2 ?returns-2 Else2/if2 ?sub-first ?add-last Then3/if3 ?mul-mean-of-32
 --   ?sub-mean-of-32 ?part-mean-of-32-start ?part-mean-of-32-end After-mean-of-32-arg/mean-of-32-arg ?mul-mean-of-32-2 ?sub-mean-of-32-2
---   ?part-mean-of-32-start-2 ?part-mean-of-32-end-2 After-mean-of-32-arg2/mean-of-32-arg2 ?mean-of-32-requires After-mean-of-32/mean-of-32 ?cast-t24 ?returns-3
+--   ?part-mean-of-32-start-2 ?part-mean-of-32-end-2 After-mean-of-32-arg2/mean-of-32-arg2 ?mean-of-32-requires After-mean-of-32/mean-of-32 ?cast-t23 ?returns-3
 --   Else3/if3 ?mul-tally-of ?sub-tally-of ?part-tally-of-start ?part-tally-of-end After-tally-of-arg/tally-of-arg ?mul-tally-of-2 ?sub-tally-of-2
 --   ?part-tally-of-start-2 ?part-tally-of-end-2 After-tally-of-arg2/tally-of-arg2 ?tally-of-requires After-tally-of/tally-of ?limit-requires After-limit/limit
 --   ?cast-t35 ?returns-4
