@@ -1,6 +1,6 @@
 -- Laws of outcomes: which there are, what a counted interval's values are, and what a device's sums are.
 -- Assumes nothing.
-use Prim.Native.Nat.{ℕ, _-_, _*_, _≤_, _<_}
+use Prim.Native.Nat.{ℕ, _+_, _-_, _*_, _≤_, _<_}
 use mathlib.Core.Path.{_≡_, refl, sym, ap, _∙_, subst}
 use mathlib.Core.Bool.{Bool, true, false, not}
 use mathlib.Core.List.{List}
@@ -16,7 +16,8 @@ use Rattle.rows.proofs.Sums.{sumTo-bound, sumTo-ext, counts-add}
 use Rattle.protocol.specs.Ranges.{mark, tempMissing, pressMissing, tempRight, pressRight, between, kelvinOf, flowMost, contentMost}
 use Rattle.volume.specs.Volume.{methaneLitres, Inside, litresMost}
 use Rattle.volume.proofs.Laws.{methane-litres-most, no-flow}
-use Rattle.drainage_runs.specs.Runs.{excluding}
+use Rattle.drainage_runs.specs.Runs.{tooLong, notWhole}
+use Rattle.drainage_runs.specs.Private.{excluding}
 use Rattle.drainage_outcomes.specs.declared.Sums.{Sums}
 use Rattle.drainage_outcomes.specs.Outcomes.{outcomes, outcomeOf, allMeasured, counted, litresFor, heldOutcome, entryOf, entryAt, sumsOf, Held, Holds, Ready, ReadyAt, Finished}
 
@@ -83,7 +84,7 @@ held-few : (reading held b r : ℕ) → Holds reading held b → r < 10 → held
 held-few reading held b r x h = go (ltb excluding held)
   where
     go : (t : Bool) → pick t (held - excluding) r < 10
-    go true = let z : held ≤ 65509 = x .few in omega arith
+    go true = let z : held ≤ excluding + notWhole = x .few in omega arith
     go false = h
 
 -- where the reading was measured, or its replacement found, the value is in range
@@ -92,8 +93,8 @@ held-right reading held b r x h = go (eqb reading mark) refl
   where
     found : (t : Bool) → ltb excluding held ≡ t → pick t (held - excluding) r < 3 → held ≤ b
     found true e l =
-        let z : 65500 < held = ltb-true 65500 held e in
-        let y : 65508 ≤ held = x .some z in
+        let z : excluding < held = ltb-true excluding held e in
+        let y : excluding + tooLong ≤ held = x .some z in
         absurd (let w : ⊥ = omega arith in w)
     found false e l = x .value (ltb-false excluding held e)
 

@@ -11,7 +11,8 @@ use Rattle.rows.specs.Rows.{pick, both, either, build, sumTo, countOf}
 use Rattle.protocol.specs.Ranges.{intervalsMost, mark, tempMissing, pressMissing, tempRight, pressRight, flowMost, contentMost}
 use Rattle.columns.specs.Series.{Series, Long}
 use Rattle.volume.specs.Volume.{methaneLitres}
-use Rattle.drainage_runs.specs.Runs.{excluding}
+use Rattle.drainage_runs.specs.Runs.{tooLong, notWhole}
+use Rattle.drainage_runs.specs.Private.{excluding}
 use Rattle.drainage_outcomes.specs.declared.Entry.{Entry}
 use Rattle.drainage_outcomes.specs.declared.Sums.{Sums}
 
@@ -84,9 +85,9 @@ sumsOf n entry =
 -- what is held for a reading: a value up to b, or the outcome 8 or 9 where the reading is missing
 pub record Holds (reading held b : ℕ) : Type 0 where
   pub value : held ≤ excluding → held ≤ b
-  pub few : held ≤ excluding + 9
+  pub few : held ≤ excluding + notWhole
   pub measured : eqb reading mark ≡ false → held ≤ b
-  pub some : excluding < held → excluding + 8 ≤ held
+  pub some : excluding < held → excluding + tooLong ≤ held
 
 -- what an interval's entry is worked out from
 pub record Ready (flow content : ℕ) (temp : ℤ) (press flowHeld contentHeld : ℕ) : Type 0 where

@@ -51,10 +51,12 @@ usable row a e (suc side) k = measuredAt row (e + k)
 unfoldable pub whole : List ℕ → ℕ → ℕ → ℕ → Bool
 whole row a e w = every 2 (λ side. every w (usable row a e side))
 
--- What a gap's entries hold until outcomes are given, where there is no replacement: this and the number of the outcome that
--- excludes the interval. No reading reaches it.
-abbrev pub excluding : ℕ
-excluding = 65500
+-- Rule 8.1: the outcome of a missing reading whose gap is too long, and of one whose gap has windows that are not whole
+abbrev pub tooLong : ℕ
+tooLong = 8
+
+abbrev pub notWhole : ℕ
+notWhole = 9
 
 -- three measured readings, a gap of two, two measured ones
 sample : List ℕ

@@ -4,7 +4,19 @@ ghost use mathlib.Core.Path.{_≡_};
 ghost use lib.ListN.{length};
 ghost use Rattle.rows.specs.Rows.{every};
 ghost use Rattle.drainage_runs.specs.Runs.{measuredAt, gapEnd, whole};
+ghost use Rattle.drainage_runs.specs.Private.{block};
 use protocol::MISSING;
+
+// The outcomes of a missing reading that has no replacement: its gap is too long, or its windows are not whole.
+pub const TOO_LONG: u16 = 8;
+
+pub const NOT_WHOLE: u16 = 9;
+
+// What a gap's entries hold above every reading, and then the outcome, where there is no replacement.
+pub const EXCLUDING: u16 = 65500;
+
+// How many entries are looked at in one go.
+pub const BLOCK: usize = 16;
 
 // The interval after the gap that interval i is in. Ruled out: the gap's last interval; an end past the row.
 pub fn gap_end(reading: &[u16], from: usize) -> usize
@@ -21,15 +33,15 @@ pub fn gap_end(reading: &[u16], from: usize) -> usize
     i
 }
 
-// Whether none of the 16 entries from i is missing. All are looked at, so that a processor does it at one go.
+// Whether none of the entries of the block from i is missing. All are looked at, so that a processor does it in one go.
 // Ruled out: the last of them left out; the first one past them looked at.
 pub fn measured(reading: &[u16], i: usize) -> bool
-    requires { ⌜ i + 16 ≤ length (now reading) ⌝ }
-    ensures { λ r. ⌜ r ≡ every 16 (λ k. measuredAt (now (reading .entry)) (i + k)) ⌝ }
+    requires { ⌜ i + block ≤ length (now reading) ⌝ }
+    ensures { λ r. ⌜ r ≡ every block (λ k. measuredAt (now (reading .entry)) (i + k)) ⌝ }
 {
     let mut all = true;
     let mut k = 0;
-    while k < 16 {
+    while k < BLOCK {
         if reading[i + k] == MISSING {
             all = false;
             k += 1;

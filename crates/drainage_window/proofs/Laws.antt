@@ -15,7 +15,8 @@ use borrow.Author.Tests.{leb-true, le-leb, lt-leb}
 use Rattle.rows.specs.Rows.{both, total}
 use Rattle.rows.proofs.Laws.{both-true}
 use Rattle.drainage_window.specs.declared.Tally.{Tally}
-use Rattle.drainage_window.specs.Window.{tallyOf, meanOf, spreadOf, allowedOf, Meets, IsLimit, meets, greatestUpTo, limitOf, Low, Windows, Sized}
+use Rattle.drainage_window.specs.Window.{tallyOf, meanOf, spreadOf, allowedOf, Meets, IsLimit, meets, greatestUpTo, limitOf}
+use Rattle.drainage_window.specs.Sizes.{Low, Windows, Sized}
 
 -- ---- sums of values that are at most so much
 

@@ -7,7 +7,8 @@ use native.Mathlib.Omega.{arith}
 use lib.ListN.{length, getD, drop, length-append}
 use lib.Seq.{drop-length}
 use Rattle.rows.specs.Rows.{total}
-use Rattle.drainage_window.specs.Window.{tallyOf, meanOf, Low}
+use Rattle.drainage_window.specs.Window.{tallyOf, meanOf}
+use Rattle.drainage_window.specs.Sizes.{Low}
 use Rattle.drainage_window.proofs.Laws.{total-append, total-most, tally-most, low-append, mean-most}
 use Rattle.drainage_window.proofs.Adding.{off}
 

@@ -55,24 +55,15 @@ z90 = 271
 abbrev pub z95 : ℕ
 z95 = 385
 
--- every value of a list is at most so much
-pub record Low (most : ℕ) (xs : List ℕ) : Type 0 where
-  pub low : (k : ℕ) → k < length xs → getD xs k 0 ≤ most
+-- Rule 7.5: the intervals of each window, where the mean, the lower 90 % limit or the lower 95 % limit is taken of its values
+abbrev pub meanWidth : ℕ
+meanWidth = 16
 
--- the two windows of a gap: "w" is at most 288, and a reading of either series at most 30,000
-pub record Windows (before after : List ℕ) : Type 0 where
-  pub some : 0 < length before + length after
-  pub few-before : length before ≤ 288
-  pub few-after : length after ≤ 288
-  pub low-before : Low 30000 before
-  pub low-after : Low 30000 after
+abbrev pub width90 : ℕ
+width90 = 96
 
--- what the numbers of a gap's two windows stay within, so that the largest product, 100 × 576 × (S - nL)², fits 64 bits
-pub record Sized (t : Tally) : Type 0 where
-  pub some : 0 < t .n
-  pub few : t .n ≤ 576
-  pub sum-most : t .sum ≤ t .n * 30000
-  pub squares-most : t .squares ≤ t .n * 900000000
+abbrev pub width95 : ℕ
+width95 = 288
 
 -- "16 values of 100 and 16 of 101: 100"
 mean-example : meanOf (tallyOf (replicate 16 100 ++ replicate 16 101)) ≡ 100
