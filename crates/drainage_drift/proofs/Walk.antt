@@ -130,7 +130,7 @@ module _ (c : Instrument) (reading old : List ℕ) where
         → (i : ℕ) → start ≤ i → i < t → stretchDrift c i ≡ divisor - 10000
     closed t z below above i low high =
         stretch-drift c (length reading) start t i (x .ordered)
-        (record { opens = x .opens; closes = z; uncut = uncut })
+        (record { some = omega (arith, low, high); opens = x .opens; closes = z; uncut = uncut })
         low high
         ∙ maxTo-cut (c .count) j (excessIn c start t) (excessFrom c start) (x .counted) near far
         ∙ (let q = x .greatest in let w : maxTo j (excessFrom c start) ≡ divisor - 10000 = omega arith in w)
