@@ -1,7 +1,7 @@
 -- Laws of gaps: how a run starts, goes on and ends; the one gap around a missing interval; what a whole window says.
 -- Assumes nothing.
 use Prim.Native.Nat.{ℕ, zero, suc, _+_, _-_, _≤_, _<_}
-use mathlib.Core.Path.{_≡_, refl, sym, ap, _∙_, subst}
+use mathlib.Core.Path.{_≡_, refl, sym, ap, ap₂, _∙_, subst}
 use mathlib.Core.Bool.{Bool, true, false, not}
 use mathlib.Core.Logic.{⊎-elim}
 use mathlib.Core.List.{List, [], _∷_}
@@ -9,13 +9,13 @@ use native.Mathlib.Nat.{add-zero, add-suc, le-refl, le-step, le-antisymm, not-su
 use native.Mathlib.Decide.{decLe}
 use native.Mathlib.Omega.{arith}
 use lib.Dec.{ltb, eqb}
-use borrow.Author.Tests.{ltb-true, eq-eqb, ne-eqb}
+use borrow.Author.Tests.{ltb-true, lt-ltb, eq-eqb, ne-eqb}
 use lib.ListN.{length, getD, drop, length-drop, drop-of-length-le, List·getD-eq-default}
 use lib.Seq.{drop-cons, getD-drop}
-use Rattle.rows.specs.Rows.{pick, every}
-use Rattle.rows.proofs.Laws.{every-at, both-true, getD-inside}
+use Rattle.rows.specs.Rows.{pick, both, every}
+use Rattle.rows.proofs.Laws.{every-at, every-all, both-true, getD-inside}
 use Rattle.protocol.specs.Ranges.{missing, mark}
-use Rattle.drainage_runs.specs.Runs.{missingAt, measuredAt, gapStart, gapEnd, run, usable, whole, IsGap}
+use Rattle.drainage_runs.specs.Runs.{missingAt, measuredAt, gapStart, gapEnd, run, usable, whole, IsGap, WindowsWhole}
 
 clash : {X : Type 0} {b : Bool} → b ≡ true → b ≡ false → X
 clash p q = let z : _≡_ {A = ℕ} 0 1 = cc in absurd (let w : ⊥ = omega arith in w)
@@ -171,19 +171,20 @@ start-first row (suc i) h = go (start-first row i) (missingAt row i) refl h
     go ih true e z = ih z
     go ih false e z = subst (λ (x : ℕ). missingAt row x ≡ false) (let w : i ≡ suc i - 1 = omega arith in w) e
 
--- gapStart and gapEnd give a gap, and interval i lies in it
+-- interval i lies from gapStart up to gapEnd, and these give a gap
+pub around : (row : List ℕ) (i : ℕ) → i < length row → missingAt row i ≡ true → (gapStart row i ≤ i) × (i < gapEnd row i)
+around row i h e =
+    (start-least row i, subst (λ (x : ℕ). i < x) (sym (end-on row i h e)) (end-least row (suc i)))
+
 pub gap-is : (row : List ℕ) (i : ℕ) → i < length row → missingAt row i ≡ true → IsGap row (gapStart row i) (gapEnd row i)
 gap-is row i h e =
     record {
+      some = let z = around row i h e in omega arith;
       inside = end-most row i (omega arith);
       all-missing = λ k l m. elim (decLe i k) [ yes z ↦ of-gap row i k (omega arith) z m .is-missing | no z ↦ start-all row i k l (lt-of-not-le z) ];
       first = λ z. ap not (start-first row i z);
       last = λ z. ap not (end-measured row i (omega arith) z);
     }
-
-pub around : (row : List ℕ) (i : ℕ) → i < length row → missingAt row i ≡ true → (gapStart row i ≤ i) × (i < gapEnd row i)
-around row i h e =
-    (start-least row i, subst (λ (x : ℕ). i < x) (sym (end-on row i h e)) (end-least row (suc i)))
 
 not-both : {b : Bool} → b ≡ true → not b ≡ true → ⊥
 not-both p q = let z : _≡_ {A = ℕ} 0 1 = cc in omega arith
@@ -238,3 +239,20 @@ unfolding usable
 whole-after row a e w h k l =
     let m : missingAt row (e + k) ≡ false = not-back _ (every-usable row a e w 1 k h (omega arith) l) in
     (measured-inside row (e + k) m, m)
+
+-- the test and rule 7.2 say the same
+pub whole-is : (row : List ℕ) (a e w : ℕ) → whole row a e w ≡ true → WindowsWhole row a e w
+whole-is row a e w h =
+    record {
+      before = λ k l. let z = whole-before row a e w h k l in (z .0, ap not (z .1));
+      after = λ k l. let z = whole-after row a e w h k l in (z .0, ap not (z .1));
+    }
+
+pub is-whole : (row : List ℕ) (a e w : ℕ) → WindowsWhole row a e w → whole row a e w ≡ true
+unfolding whole usable
+is-whole row a e w x = every-all 2 (λ side. every w (usable row a e side)) (λ side h. every-all w (usable row a e side) (each side))
+  where
+    each : (side k : ℕ) → k < w → usable row a e side k ≡ true
+    each zero k l =
+        ap₂ both (lt-ltb k a (x .before k l .0)) (x .before k l .1)
+    each (suc side) k l = x .after k l .1
