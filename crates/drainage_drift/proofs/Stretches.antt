@@ -132,7 +132,9 @@ module _ (c : Instrument) (s t : ℕ) where
             before = leb-true (positionOf c j) t b;
             has = above-none (driftOf c j) d (sym (excess-in j a b f) ∙ e) h;
           }
-      go true a true b true f = absurd (let q = pick-zero (both (leb s (positionOf c j)) (leb (positionOf c j) t)) (excess c j) (excess-passed c j f) in let w : ⊥ = omega arith in w)
+      go true a true b true f =
+          let q = pick-zero (both (leb s (positionOf c j)) (leb (positionOf c j) t)) (excess c j) (excess-passed c j f) in
+          absurd (let w : ⊥ = omega arith in w)
       go true a false b z f = absurd (let q = ap₂ (λ (u v : Bool). pick (both u v) (excess c j) 0) a b in let w : ⊥ = omega arith in w)
       go false a y b z f = absurd (let q = ap (λ (u : Bool). pick (both u (leb (positionOf c j) t)) (excess c j) 0) a in let w : ⊥ = omega arith in w)
 

@@ -135,7 +135,9 @@ module _ (reading corrected used : List ℕ) where
         same k a b =
             let g = of-gap reading i k (v .within) a (subst (λ (x : ℕ). k < x) q b) in
             filled-missing reading corrected k (g .is-missing)
-            ∙ ap heldFor (one-gap reading corrected i e k (g .starts ∙ v .fresh l m) (g .stops ∙ sym q) ∙ sym (same-replacement reading used corrected i e (v .goes .same-length) (v .within) agrees))
+            ∙ ap heldFor
+            (one-gap reading corrected i e k (g .starts ∙ v .fresh l m) (g .stops ∙ sym q)
+            ∙ sym (same-replacement reading used corrected i e (v .goes .same-length) (v .within) agrees))
 
     pub filling-done : length reading ≤ i → used ≡ build (length reading) (filledAt reading corrected)
     filling-done h =

@@ -59,13 +59,13 @@ counts false false false false true false a b h = record { has = refl; flow-foun
 counts false false false false false r a b h = record { has = refl; flow-found = λ e. clash e refl; content-found = λ e. clash e refl }
 
 -- nothing is missing: outcome 0, whatever else there is
-whole : (s u l f c r : Bool) (a b : ℕ) → not (either s (either u (either l (either f c)))) ≡ true → 0 ≡ ordered s u l f c r a b
-whole true u l f c r a b e = clash e refl
-whole false true l f c r a b e = clash e refl
-whole false false true f c r a b e = clash e refl
-whole false false false true c r a b e = clash e refl
-whole false false false false true r a b e = clash e refl
-whole false false false false false r a b e = refl
+all-there : (s u l f c r : Bool) (a b : ℕ) → not (either s (either u (either l (either f c)))) ≡ true → 0 ≡ ordered s u l f c r a b
+all-there true u l f c r a b e = clash e refl
+all-there false true l f c r a b e = clash e refl
+all-there false false true f c r a b e = clash e refl
+all-there false false false true c r a b e = clash e refl
+all-there false false false false true r a b e = clash e refl
+all-there false false false false false r a b e = refl
 
 few : (s u l f c r : Bool) (a b : ℕ) → a < 10 → b < 10 → ordered s u l f c r a b < 10
 few true u l f c r a b h k = omega arith
@@ -138,7 +138,7 @@ pub measured-outcome : (flow content : ℕ) (temp : ℤ) (press status flowHeld 
     → 0 ≡ outcomeFor flow content temp press status flowHeld contentHeld
 unfolding outcomeOf allMeasured
 measured-outcome flow content temp press status flowHeld contentHeld e =
-    whole (eqb status 0) (eqb status 3) (either (tempMissing temp) (pressMissing press)) (eqb flow mark) (eqb content mark) (eqb status 1) (heldOutcome 1 flowHeld) (heldOutcome 2 contentHeld) e
+    all-there (eqb status 0) (eqb status 3) (either (tempMissing temp) (pressMissing press)) (eqb flow mark) (eqb content mark) (eqb status 1) (heldOutcome 1 flowHeld) (heldOutcome 2 contentHeld) e
 
 module _ (flow content : ℕ) (temp : ℤ) (press status flowHeld contentHeld : ℕ) (x : Ready flow content temp press flowHeld contentHeld) where
   -- the values of a counted interval are in range, so that its litres fit

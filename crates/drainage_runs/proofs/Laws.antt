@@ -5,7 +5,8 @@ use mathlib.Core.Path.{_≡_, refl, sym, ap, ap₂, _∙_, subst}
 use mathlib.Core.Bool.{Bool, true, false, not}
 use mathlib.Core.Logic.{⊎-elim}
 use mathlib.Core.List.{List, [], _∷_}
-use native.Mathlib.Nat.{add-zero, add-suc, le-refl, le-step, le-antisymm, not-suc-le-zero, le-of-suc-le-suc, le-add-right, eq-or-lt-of-le, le-dest, lt-of-not-le}
+use native.Mathlib.Nat.{add-zero, add-suc, le-refl, le-step, le-antisymm, not-suc-le-zero, le-of-suc-le-suc, le-add-right, eq-or-lt-of-le, le-dest}
+use native.Mathlib.Nat.{lt-of-not-le}
 use native.Mathlib.Decide.{decLe}
 use native.Mathlib.Omega.{arith}
 use lib.Dec.{ltb, eqb}
@@ -93,7 +94,8 @@ unfolding run
 run-end [] h = absurd (not-suc-le-zero h)
 run-end (v ∷ vs) h = go (run-end vs) (missing v) refl h
   where
-    go : (run vs < length vs → missing (getD vs (run vs) mark) ≡ false) → (b : Bool) → missing v ≡ b → pick b (suc (run vs)) 0 < suc (length vs) → missing (getD (v ∷ vs) (pick b (suc (run vs)) 0) mark) ≡ false
+    go : (run vs < length vs → missing (getD vs (run vs) mark) ≡ false) → (b : Bool) → missing v ≡ b
+        → pick b (suc (run vs)) 0 < suc (length vs) → missing (getD (v ∷ vs) (pick b (suc (run vs)) 0) mark) ≡ false
     go ih true e l = ih (omega arith)
     go ih false e l = e
 
@@ -167,7 +169,8 @@ unfolding gapStart
 start-first row zero h = absurd (not-suc-le-zero h)
 start-first row (suc i) h = go (start-first row i) (missingAt row i) refl h
   where
-    go : (0 < gapStart row i → missingAt row (gapStart row i - 1) ≡ false) → (b : Bool) → missingAt row i ≡ b → 0 < pick b (gapStart row i) (suc i) → missingAt row (pick b (gapStart row i) (suc i) - 1) ≡ false
+    go : (0 < gapStart row i → missingAt row (gapStart row i - 1) ≡ false) → (b : Bool) → missingAt row i ≡ b
+        → 0 < pick b (gapStart row i) (suc i) → missingAt row (pick b (gapStart row i) (suc i) - 1) ≡ false
     go ih true e z = ih z
     go ih false e z = subst (λ (x : ℕ). missingAt row x ≡ false) (let w : i ≡ suc i - 1 = omega arith in w) e
 
@@ -200,14 +203,18 @@ gap-unique row i a e b f x y h l m o = (
     left a e b f x y h l m o =
         elim (decLe a b) [
           | yes z ↦ z
-          | no z ↦ absurd (not-both (y .all-missing (a - 1) (omega (arith, lt-of-not-le z)) (omega (arith, lt-of-not-le z))) (x .first (omega (arith, lt-of-not-le z))))
+          | no z ↦
+              let b-first : b < a = lt-of-not-le z in
+              absurd (not-both (y .all-missing (a - 1) (omega arith) (omega arith)) (x .first (omega arith)))
         ]
 
     right : (a e b f : ℕ) → IsGap row a e → IsGap row b f → a ≤ i → i < e → b ≤ i → i < f → e ≤ f
     right a e b f x y h l m o =
         elim (decLe e f) [
           | yes z ↦ z
-          | no z ↦ absurd (not-both (x .all-missing f (omega arith) (lt-of-not-le z)) (y .last (let w : e ≤ length row = x .inside in omega (arith, lt-of-not-le z))))
+          | no z ↦
+              let f-first : f < e = lt-of-not-le z in
+              absurd (not-both (x .all-missing f (omega arith) f-first) (y .last (omega (arith, x .inside))))
         ]
 
 -- ---- what a whole window says

@@ -1,18 +1,17 @@
 -- The look over a gap's two windows, entry by entry, as a loop's invariant: start, step and both ends.
 -- Assumes nothing.
-use Prim.Native.Nat.{ℕ, zero, suc, _+_, _-_, _*_, _≤_, _<_}
+use Prim.Native.Nat.{ℕ, zero, suc, _+_, _-_, _≤_, _<_}
 use mathlib.Core.Path.{_≡_, refl, sym, ap, _∙_, subst}
 use mathlib.Core.Bool.{Bool, true, false, not}
 use mathlib.Core.List.{List}
-use native.Mathlib.Nat.{not-suc-le-zero, lt-of-not-le}
+use native.Mathlib.Nat.{not-suc-le-zero}
 use native.Mathlib.Numerals.{add-one}
-use native.Mathlib.Decide.{decLe}
 use native.Mathlib.Omega.{arith}
 use borrow.Author.Count.{below-more}
 use borrow.Author.Tests.{lt-ltb}
 use lib.ListN.{length}
 use Rattle.rows.specs.Rows.{both, every}
-use Rattle.rows.proofs.Laws.{every-at, every-all, every-fails}
+use Rattle.rows.proofs.Laws.{every-all, every-fails}
 use Rattle.drainage_runs.specs.Runs.{measuredAt, usable, whole}
 use Rattle.drainage_runs.proofs.Laws.{whole-before, whole-after}
 

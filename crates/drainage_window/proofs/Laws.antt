@@ -6,7 +6,8 @@ use mathlib.Core.Path.{_≡_, refl, sym, ap, ap₂, _∙_, subst}
 use mathlib.Core.Bool.{Bool, true, false}
 use mathlib.Core.Logic.{_⊎_, inl, inr, ⊎-elim}
 use mathlib.Core.List.{List, [], _∷_, _++_, map, map-append, map-id}
-use native.Mathlib.Nat.{le-refl, le-trans, le-step, not-suc-le-zero, not-le-of-lt, le-of-suc-le-suc, eq-or-lt-of-le, lt-of-le-of-lt, lt-of-not-le, le-antisymm, suc-mul, add-le-add, mul-le-mul, mul-le-mul-left, sub-le-sub-left, lt-mul-div-succ, div-le-of-le-mul}
+use native.Mathlib.Nat.{le-refl, le-trans, le-step, not-suc-le-zero, not-le-of-lt, le-of-suc-le-suc, eq-or-lt-of-le, lt-of-le-of-lt, lt-of-not-le}
+use native.Mathlib.Nat.{le-antisymm, suc-mul, add-le-add, mul-le-mul, mul-le-mul-left, sub-le-sub-left, lt-mul-div-succ, div-le-of-le-mul}
 use native.Mathlib.Decide.{decLe}
 use native.Mathlib.Omega.{arith}
 use lib.Dec.{leb}
@@ -147,7 +148,8 @@ module _ (t : Tally) (z L : ℕ) where
         room = is-le (pos (t .n * L)) (pos (t .sum)) (is-pos (t .n * L)) (is-pos (t .sum)) (omega (arith, m .room));
         spread =
             subst (λ (w : ℤ). (pos z *ℤ (pos (t .n * t .squares) -ℤ pos (t .sum * t .sum))) ≤ℤ w) (sym (right-is (t .n) (t .sum) (t .n * L) (m .room)))
-            (is-le _ _ (left-is z (t .n * t .squares) (t .sum * t .sum)) (is-pos (100 * (t .n * (t .sum - t .n * L) * (t .sum - t .n * L)))) (omega (arith, m .spread)));
+            (is-le _ _ (left-is z (t .n * t .squares) (t .sum * t .sum)) (is-pos (100 * (t .n * (t .sum - t .n * L) * (t .sum - t .n * L))))
+            (omega (arith, m .spread)));
       }
 
 pub meets-true : (t : Tally) (z L : ℕ) → meets t z L ≡ true → Meets t z L
@@ -208,7 +210,8 @@ module _ (p : ℕ → Bool) where
   unfolding greatestUpTo
   greatest-case k = go (p (suc k)) refl
     where
-      go : (b : Bool) → p (suc k) ≡ b → ((p (suc k) ≡ true) × (greatestUpTo p (suc k) ≡ suc k)) ⊎ ((p (suc k) ≡ false) × (greatestUpTo p (suc k) ≡ greatestUpTo p k))
+      go : (b : Bool) → p (suc k) ≡ b
+          → ((p (suc k) ≡ true) × (greatestUpTo p (suc k) ≡ suc k)) ⊎ ((p (suc k) ≡ false) × (greatestUpTo p (suc k) ≡ greatestUpTo p k))
       go true e = inl (e, ap (λ (b : Bool). elim b [ true ↦ suc k | false ↦ greatestUpTo p k ]) e)
       go false e = inr (e, ap (λ (b : Bool). elim b [ true ↦ suc k | false ↦ greatestUpTo p k ]) e)
 

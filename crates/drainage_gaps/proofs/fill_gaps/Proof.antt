@@ -1,3 +1,4 @@
+-- Every gap is filled once: the loop's invariant is `Filling`.
 use Prim.Native.Nat.{ℕ, _-_, _≤_, _<_}
 use mathlib.Core.Path.{_≡_, refl, sym, ap, _∙_, subst}
 use mathlib.Core.Bool.{true, not}
@@ -7,7 +8,6 @@ use lib.ListN.{length}
 use Rattle.rows.specs.Rows.{Continued}
 use Rattle.drainage_runs.specs.Runs.{missingAt}
 use Rattle.drainage_runs.proofs.Laws.{missing-is, measured-is, around}
-use Rattle.drainage_gaps.specs.Private.{heldFor}
 use Rattle.drainage_gaps.proofs.Filling.{Filling, filling-start, filling-next, filling-gap, filling-done, goes-on, length-used}
 use Rattle.drainage_gaps.proofs.fill_gaps.Statement.{statement}
 use Rattle.drainage_gaps.proofs.fill_gaps.Tie as tie

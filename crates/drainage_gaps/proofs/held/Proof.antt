@@ -1,6 +1,5 @@
 -- What a gap's entries hold: its replacement, or the outcome that excludes them.
-use mathlib.Core.Path.{_≡_, sym, _∙_}
-use native.Mathlib.Omega.{arith}
+use mathlib.Core.Path.{sym, _∙_}
 use borrow.Author.Needs.{needs}
 use Rattle.drainage_gaps.proofs.Laws.{held-long, held-not, held-value}
 use Rattle.drainage_gaps.proofs.held.Statement.{statement}

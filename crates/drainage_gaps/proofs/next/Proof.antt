@@ -1,3 +1,4 @@
+-- The search goes on past measured entries only.
 use mathlib.Core.Path.{sym, _∙_}
 use native.Mathlib.Omega.{arith}
 use borrow.Author.Needs.{needs}

@@ -1,10 +1,8 @@
 -- The replacement of one gap, by its class and by whether its windows are whole.
-use Prim.Native.Nat.{_-_}
-use mathlib.Core.Path.{_≡_, sym, ap, _∙_}
+use mathlib.Core.Path.{sym, _∙_}
 use native.Mathlib.Omega.{arith}
 use borrow.Author.Needs.{needs}
 use borrow.Author.Tests.{not-true, not-false}
-use Rattle.drainage_gaps.specs.Gaps.{classOf}
 use Rattle.drainage_gaps.proofs.Laws.{class-fits, replaced-not, Ready, ready-before, ready-after, ready-windows, ready-mean, ready-value}
 use Rattle.drainage_gaps.proofs.Laws.{taken-mean, taken-limit}
 use Rattle.drainage_gaps.proofs.replace.Statement.{statement}

@@ -18,12 +18,12 @@ window-tally-requires-2 : tie.Need-window-tally-requires-2
 window-tally-requires-2 c κs = search needs
 
 -- what is known once both windows are added
-whole : (c : tie.After-window-tally2)
-    → sums (window-tally·whole c .window-tally .result) (c .window-tally2 .result)
-    ≡ tallyOf (start·whole c .args .before .now ++ start·whole c .args .after .now)
-whole c =
-    sums-are (start·whole c .args .before .now) (start·whole c .args .after .now)
-    (window-tally·whole c .window-tally .ensures) (c .window-tally2 .ensures)
+added : (c : tie.After-window-tally2)
+    → sums (window-tally·added c .window-tally .result) (c .window-tally2 .result)
+    ≡ tallyOf (start·added c .args .before .now ++ start·added c .args .after .now)
+added c =
+    sums-are (start·added c .args .before .now) (start·added c .args .after .now)
+    (window-tally·added c .window-tally .ensures) (c .window-tally2 .ensures)
 
 sized : (c : tie.After-window-tally2) → Sized (sums (window-tally·sized c .window-tally .result) (c .window-tally2 .result))
 sized c = sums-sized (window-tally·sized c .window-tally .ensures) (c .window-tally2 .ensures) (start·sized c .pre)
@@ -38,7 +38,7 @@ add-t7 : tie.Need-add-t7
 add-t7 c = let s = sized (window-tally2·add-t7 c) in record { fits = omega arith }
 
 returns : tie.Need-returns
-returns c = (whole (window-tally2·returns c), sized (window-tally2·returns c))
+returns c = (added (window-tally2·returns c), sized (window-tally2·returns c))
 
 pub tally-of-spec : {M : Type 1} → statement M
 tally-of-spec = tie.close (tie.spec window-tally-requires window-tally-requires-2 add-t5 add-t6 add-t7 returns)
