@@ -8,7 +8,7 @@ use lib.ListN.{getD}
 use Rattle.drainage_window.specs.Window.{tallyOf, meanOf, limitOf, meets, greatestUpTo}
 use Rattle.drainage_drift.specs.Drift.{correctedAt, keptOr, corrected, stretchDrift, together}
 use Rattle.drainage_runs.specs.Runs.{gapStart, gapEnd, run, whole, usable}
-use Rattle.drainage_gaps.specs.Gaps.{widthOf, ruleOf, windowValues, replacementOf, replacementAt}
+use Rattle.drainage_gaps.specs.Gaps.{classOf, windowValues, replacementOf, replacementAt}
 use Rattle.drainage_judge.specs.Call.{Call}
 use Rattle.drainage_outcomes.specs.Outcomes.{outcomeOf}
 use Rattle.drainage_device.specs.Device.{instrumentOf, correctedFlow, correctedContent, outcomeAt, valueAt, flowUsedAt, contentUsedAt}
@@ -21,14 +21,14 @@ after c = rowsOf (lentIn c) 1
 
 -- rule 8.4: the worked example's rows
 measured : after worked ≡ record { outcome = 0 ∷ []; flow = 30000 ∷ []; content = 10000 ∷ [] }
-unfolding rowsOf outcomePart flowPart contentPart recordsOf outcomeAt outcomeOf flowUsedAt contentUsedAt valueAt correctedFlow correctedContent instrumentOf correctedAt keptOr corrected stretchDrift together replacementAt replacementOf gapStart gapEnd run whole usable widthOf ruleOf tallyOf meanOf limitOf meets greatestUpTo windowValues
+unfolding rowsOf outcomePart flowPart contentPart recordsOf outcomeAt outcomeOf flowUsedAt contentUsedAt valueAt correctedFlow correctedContent instrumentOf correctedAt keptOr corrected stretchDrift together replacementAt replacementOf gapStart gapEnd run whole usable classOf tallyOf meanOf limitOf meets greatestUpTo windowValues
 measured = refl
 
 -- rule 6.4: checks at 0 and at N of one interval. Both failed: the greater drift counts (rule 6.5). One failed and one
 -- passed: the failed one, as a passed check there cuts nothing off (rule 6.3). 90 % low and 5 % high: the high one.
 ends : (after (checked 0 1 (pos 500) (pos 700)) .flow ≡ 934 ∷ []) × (after (checked 0 1 (pos 700) (pos 0)) .flow ≡ 934 ∷ [])
     × (after (checked 0 1 (pos 0) (pos 700)) .flow ≡ 934 ∷ []) × (after (checked 0 1 (negsuc 8999) (pos 500)) .flow ≡ 952 ∷ [])
-unfolding rowsOf outcomePart flowPart contentPart recordsOf outcomeAt outcomeOf flowUsedAt contentUsedAt valueAt correctedFlow correctedContent instrumentOf correctedAt keptOr corrected stretchDrift together replacementAt replacementOf gapStart gapEnd run whole usable widthOf ruleOf tallyOf meanOf limitOf meets greatestUpTo windowValues
+unfolding rowsOf outcomePart flowPart contentPart recordsOf outcomeAt outcomeOf flowUsedAt contentUsedAt valueAt correctedFlow correctedContent instrumentOf correctedAt keptOr corrected stretchDrift together replacementAt replacementOf gapStart gapEnd run whole usable classOf tallyOf meanOf limitOf meets greatestUpTo windowValues
 ends = (refl, refl, refl, refl)
 
 -- the outcome and the flow used at interval i
@@ -38,5 +38,5 @@ entry c i = (getD (after c .outcome) i 99, getD (after c .flow) i 99)
 -- rule 7.5: a gap of one with 16 measured on either side is replaced by their mean. With fewer on a side, at the row's
 -- start or at its end, its windows are not whole (rule 7.2): outcome 9 (rule 8.1), and 0 for the flow (rule 8.4).
 gaps : (entry (gapped 16) 16 ≡ (1, 100)) × (entry (gapped 15) 15 ≡ (9, 0)) × (entry (gapped 0) 0 ≡ (9, 0)) × (entry (gapped 32) 32 ≡ (9, 0))
-unfolding rowsOf outcomePart flowPart contentPart recordsOf outcomeAt outcomeOf flowUsedAt contentUsedAt valueAt correctedFlow correctedContent instrumentOf correctedAt keptOr corrected stretchDrift together replacementAt replacementOf gapStart gapEnd run whole usable widthOf ruleOf tallyOf meanOf limitOf meets greatestUpTo windowValues
+unfolding rowsOf outcomePart flowPart contentPart recordsOf outcomeAt outcomeOf flowUsedAt contentUsedAt valueAt correctedFlow correctedContent instrumentOf correctedAt keptOr corrected stretchDrift together replacementAt replacementOf gapStart gapEnd run whole usable classOf tallyOf meanOf limitOf meets greatestUpTo windowValues
 gaps = (refl, refl, refl, refl)

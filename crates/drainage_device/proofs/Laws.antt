@@ -16,12 +16,12 @@ use Rattle.rows.proofs.Sums.{sumTo-ext, counts-add}
 use Rattle.protocol.specs.Ranges.{mark, missing, flowMost, contentMost, flowRight, contentRight, tempMissing, pressMissing}
 use Rattle.drainage_drift.specs.Drift.{Instrument, correctedAt, Ordered}
 use Rattle.drainage_drift.proofs.Laws.{at-bounded}
-use Rattle.drainage_runs.specs.Runs.{missingAt, excluding, gapStart, gapEnd, whole}
+use Rattle.drainage_runs.specs.Runs.{missingAt, tooLong, notWhole}
+use Rattle.drainage_runs.specs.Private.{excluding}
 use Rattle.drainage_runs.proofs.Laws.{measured-inside}
-use Rattle.drainage_gaps.specs.Gaps.{replacementAt, replacementOf, heldFor, filledAt, Goes, widthOf, ruleOf, windowValues}
-use Rattle.drainage_gaps.specs.declared.Replacement.{Replacement}
-use Rattle.drainage_gaps.specs.declared.Replacement.the-variants.{Value, TooLong, NotWhole}
-use Rattle.drainage_gaps.proofs.Laws.{replacement-most}
+use Rattle.drainage_gaps.specs.Gaps.{Replaced, replacementAt}
+use Rattle.drainage_gaps.specs.Private.{heldFor, filledAt, Goes}
+use Rattle.drainage_gaps.proofs.Laws.{Bounded, replacement-bounded}
 use Rattle.drainage_gaps.proofs.Filling.{filled-measured, filled-missing}
 use Rattle.volume.specs.Volume.{methaneLitres, litresMost, Inside}
 use Rattle.balance.specs.Balance.{destroyedOf, uncombustedOf, deviceMost}
@@ -72,19 +72,19 @@ pub filled-holds : (reading corrected : List ℕ) (b i : ℕ) → Goes reading c
 unfolding heldFor
 filled-holds reading corrected b i g l h = go (missingAt reading i) refl
   where
-    held : (r : Replacement) → ((v : ℕ) → r ≡ Value v → v ≤ b) → missingAt reading i ≡ true → Holds (getD reading i mark) (heldFor r) b
-    held (Value v) m e =
-        let most : v ≤ b = m v refl in
+    held : (r : Replaced) → Bounded b r → missingAt reading i ≡ true → Holds (getD reading i mark) (heldFor r) b
+    held (Replaced.by v) m e =
+        let most : v ≤ b = m .value v refl in
         record { value = λ z. most; few = omega arith; measured = λ z. most; some = λ z. omega arith }
-    held TooLong m e =
-        record { value = λ z. absurd (let n : ⊥ = omega arith in n); few = omega arith; measured = λ z. clash e z; some = λ z. omega arith }
-    held NotWhole m e =
+    held (Replaced.excluded o) m e =
+        let some : tooLong ≤ o = m .outcome o refl .0 in
+        let few : o ≤ notWhole = m .outcome o refl .1 in
         record { value = λ z. absurd (let n : ⊥ = omega arith in n); few = omega arith; measured = λ z. clash e z; some = λ z. omega arith }
 
     go : (t : Bool) → missingAt reading i ≡ t → Holds (getD reading i mark) (filledAt reading corrected i) b
     go true e =
         subst (λ (x : ℕ). Holds (getD reading i mark) x b) (sym (filled-missing reading corrected i e))
-        (held (replacementAt reading corrected i) (replacement-most reading corrected i b h g) e)
+        (held (replacementAt reading corrected i) (replacement-bounded reading corrected i b h g) e)
     go false e =
         let most : getD corrected i mark ≤ b = g .most i e in
         subst (λ (x : ℕ). Holds (getD reading i mark) x b) (sym (filled-measured reading corrected i e))
@@ -101,11 +101,12 @@ outcome-same s l false true p q x y f g = ap (λ (k : ℕ). outcomeOf s l false 
 outcome-same s l false false p q x y f g = refl
 
 -- what is held for a missing reading tells its replacement's outcome
-held-as : (k b : ℕ) (r : Replacement) → ((v : ℕ) → r ≡ Value v → v ≤ b) → b ≤ excluding → heldOutcome k (heldFor r) ≡ replacedAs k r
+held-as : (k b : ℕ) (r : Replaced) → Bounded b r → b ≤ excluding → heldOutcome k (heldFor r) ≡ replacedAs k r
 unfolding heldFor
-held-as k b (Value v) m l = ap (λ (t : Bool). pick t (v - excluding) k) (le-ltb excluding v (le-trans (m v refl) l))
-held-as k b TooLong m l = refl
-held-as k b NotWhole m l = refl
+held-as k b (Replaced.by v) m l = ap (λ (t : Bool). pick t (v - excluding) k) (le-ltb excluding v (le-trans (m .value v refl) l))
+held-as k b (Replaced.excluded o) m l =
+    ap (λ (t : Bool). pick t (excluding + o - excluding) k) (lt-ltb excluding (excluding + o) (omega (arith, m .outcome o refl .0)))
+    ∙ (let z : excluding + o - excluding ≡ o = omega arith in z)
 
 -- an interval that counts has a value: what is held is what the specification calls its value
 excluded-flow : (s : ℕ) (l nc : Bool) (p x : ℕ) → counted p ≡ false → counted (outcomeOf s l true nc p x) ≡ false
@@ -133,21 +134,22 @@ excluded-content s l nf p x e = go (eqb s 0) (eqb s 3) l nf (eqb s 1)
     go false false false false false = e
 
 -- a value used, from what is held: the outcome excludes whatever has no value
-same-used : (reading corrected : List ℕ) (i o k : ℕ)
+same-used : (reading corrected : List ℕ) (i o k b : ℕ) → Bounded b (replacementAt reading corrected i)
     → (missingAt reading i ≡ true → counted (replacedAs k (replacementAt reading corrected i)) ≡ false → counted o ≡ false)
     → counted k ≡ true → usedFor o (filledAt reading corrected i) ≡ usedFor o (valueAt reading corrected i)
 unfolding filledAt valueAt heldFor
-same-used reading corrected i o k f c = go (missingAt reading i) refl
+same-used reading corrected i o k b m f c = go (missingAt reading i) refl
   where
-    none : (r : Replacement) → (counted (replacedAs k r) ≡ false → counted o ≡ false) → usedFor o (heldFor r) ≡ usedFor o (valueOf r)
-    none (Value v) z = refl
-    none TooLong z = ap (λ (t : Bool). pick t (excluding + 8) 0) (z refl) ∙ sym (ap (λ (t : Bool). pick t 0 0) (z refl))
-    none NotWhole z = ap (λ (t : Bool). pick t (excluding + 9) 0) (z refl) ∙ sym (ap (λ (t : Bool). pick t 0 0) (z refl))
+    none : (r : Replaced) → Bounded b r → (counted (replacedAs k r) ≡ false → counted o ≡ false) → usedFor o (heldFor r) ≡ usedFor o (valueOf r)
+    none (Replaced.by v) m z = refl
+    none (Replaced.excluded x) m z =
+        let out : counted o ≡ false = z (le-ltb x 3 (omega (arith, m .outcome x refl .0))) in
+        ap (λ (t : Bool). pick t (excluding + x) 0) out ∙ sym (ap (λ (t : Bool). pick t 0 0) out)
 
     go : (t : Bool) → missingAt reading i ≡ t
         → usedFor o (pick t (heldFor (replacementAt reading corrected i)) (getD corrected i mark))
         ≡ usedFor o (pick t (valueOf (replacementAt reading corrected i)) (getD corrected i mark))
-    go true e = none (replacementAt reading corrected i) (f e)
+    go true e = none (replacementAt reading corrected i) m (f e)
     go false e = refl
 
 -- an outcome without a replacement is not counted
@@ -222,6 +224,14 @@ module _ (r : Records) (x : Right r) where
       subst (λ (m : ℕ). Goes (r .series .content) (build m (correctedAt (instrumentOf r 1) (r .series .content))) contentMost) (x .long .content)
       (corrected-goes (instrumentOf r 1) (r .series .content) contentMost content-low)
 
+  -- what comes of an interval whose reading is missing
+  flow-bounded : (i : ℕ) → i < intervalsOf r → Bounded flowMost (replacementAt (r .series .flow) (correctedFlow r) i)
+  flow-bounded i l = replacement-bounded (r .series .flow) (correctedFlow r) i flowMost l flow-goes
+
+  content-bounded : (i : ℕ) → i < intervalsOf r → Bounded contentMost (replacementAt (r .series .content) (correctedContent r) i)
+  content-bounded i l =
+      replacement-bounded (r .series .content) (correctedContent r) i contentMost (subst (λ (m : ℕ). i < m) (sym (x .long .content)) l) content-goes
+
   -- what is held for an interval
   flow-held : (i : ℕ) → i < intervalsOf r → getD (heldOf r .flow-held) i mark ≡ filledAt (r .series .flow) (correctedFlow r) i
   unfolding heldOf
@@ -260,24 +270,24 @@ module _ (r : Records) (x : Right r) where
       (heldOutcome 1 (getD (heldOf r .flow-held) i mark)) (replacedAs 1 (replacementAt (r .series .flow) (correctedFlow r) i))
       (heldOutcome 2 (getD (heldOf r .content-held) i mark)) (replacedAs 2 (replacementAt (r .series .content) (correctedContent r) i))
       (λ e. ap (heldOutcome 1) (flow-held i l ∙ filled-missing (r .series .flow) (correctedFlow r) i e)
-      ∙ held-as 1 flowMost (replacementAt (r .series .flow) (correctedFlow r) i) (replacement-most (r .series .flow) (correctedFlow r) i flowMost l flow-goes) (omega arith))
+      ∙ held-as 1 flowMost (replacementAt (r .series .flow) (correctedFlow r) i) (flow-bounded i l) (omega arith))
       (λ e. ap (heldOutcome 2) (content-held i l ∙ filled-missing (r .series .content) (correctedContent r) i e)
       ∙ held-as 2 contentMost (replacementAt (r .series .content) (correctedContent r) i)
-      (replacement-most (r .series .content) (correctedContent r) i contentMost (subst (λ (m : ℕ). i < m) (sym (x .long .content)) l) content-goes) (omega arith))
+      (content-bounded i l) (omega arith))
 
   flow-is : (i : ℕ) → i < intervalsOf r → entryAt (heldOf r) i .flow ≡ flowUsedAt r i
   unfolding flowUsedAt
   flow-is i l =
       entry-flow (heldOf r) i
       ∙ ap₂ usedFor (outcome-is i l) (flow-held i l)
-      ∙ same-used (r .series .flow) (correctedFlow r) i (outcomeAt r i) 1 (without-flow r i) refl
+      ∙ same-used (r .series .flow) (correctedFlow r) i (outcomeAt r i) 1 flowMost (flow-bounded i l) (without-flow r i) refl
 
   content-is : (i : ℕ) → i < intervalsOf r → entryAt (heldOf r) i .content ≡ contentUsedAt r i
   unfolding contentUsedAt
   content-is i l =
       entry-content (heldOf r) i
       ∙ ap₂ usedFor (outcome-is i l) (content-held i l)
-      ∙ same-used (r .series .content) (correctedContent r) i (outcomeAt r i) 2 (without-content r i) refl
+      ∙ same-used (r .series .content) (correctedContent r) i (outcomeAt r i) 2 contentMost (content-bounded i l) (without-content r i) refl
 
   litres-is : (i : ℕ) → i < intervalsOf r → entryAt (heldOf r) i .litres ≡ litresAt r i
   unfolding litresAt heldOf

@@ -12,9 +12,7 @@ use Rattle.protocol.specs.Ranges.{intervalsMost, mark, tempMissing, pressMissin
 use Rattle.columns.specs.Series.{Series, Checks, Long, ChecksLong, InRange}
 use Rattle.drainage_drift.specs.Drift.{Instrument, correctedAt, Ordered}
 use Rattle.drainage_runs.specs.Runs.{missingAt}
-use Rattle.drainage_gaps.specs.Gaps.{replacementAt}
-use Rattle.drainage_gaps.specs.declared.Replacement.{Replacement}
-use Rattle.drainage_gaps.specs.declared.Replacement.the-variants.{Value, TooLong, NotWhole}
+use Rattle.drainage_gaps.specs.Gaps.{Replaced, replacementAt}
 use Rattle.drainage_outcomes.specs.Outcomes.{outcomes, outcomeOf, counted, usedFor, litresFor}
 use Rattle.balance.specs.Balance.{destroyedOf, uncombustedOf}
 use Rattle.drainage_device.specs.declared.Account.{Account}
@@ -45,12 +43,11 @@ correctedFlow r = build (intervalsOf r) (correctedAt (instrumentOf r 0) (r .seri
 unfoldable pub correctedContent : Records → List ℕ
 correctedContent r = build (intervalsOf r) (correctedAt (instrumentOf r 1) (r .series .content))
 
--- the outcome of an interval whose reading is missing: the replacement's, or "8 that gap has 673 or more; 9 its window isn't
--- whole"
-abbrev pub replacedAs : ℕ → Replacement → ℕ
-replacedAs outcome (Value v) = outcome
-replacedAs outcome TooLong = 8
-replacedAs outcome NotWhole = 9
+-- Rule 8.1: the outcome of an interval whose reading is missing, where it comes to that: its replacement's, or the one that
+-- excludes it
+abbrev pub replacedAs : ℕ → Replaced → ℕ
+replacedAs outcome (Replaced.by v) = outcome
+replacedAs outcome (Replaced.excluded o) = o
 
 -- "Outcome, the first that applies"
 unfoldable pub outcomeAt : Records → ℕ → ℕ
@@ -62,10 +59,9 @@ outcomeAt r i =
     (replacedAs 1 (replacementAt (r .series .flow) (correctedFlow r) i))
     (replacedAs 2 (replacementAt (r .series .content) (correctedContent r) i))
 
-abbrev pub valueOf : Replacement → ℕ
-valueOf (Value v) = v
-valueOf TooLong = 0
-valueOf NotWhole = 0
+abbrev pub valueOf : Replaced → ℕ
+valueOf (Replaced.by v) = v
+valueOf (Replaced.excluded o) = 0
 
 -- a series' value for an interval: measured, with its drift taken out, or replaced
 unfoldable pub valueAt : List ℕ → List ℕ → ℕ → ℕ

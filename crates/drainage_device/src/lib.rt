@@ -4,11 +4,11 @@ ghost use mathlib.Core.Path.{_≡_};
 ghost use mathlib.Core.Bool.{false};
 ghost use lib.ListN.{length, getD};
 ghost use Rattle.rows.specs.Rows.{build};
-ghost use Rattle.protocol.specs.Ranges.{mark, flowMost};
+ghost use Rattle.protocol.specs.Ranges.{intervalsMost, mark, flowMost};
 ghost use Rattle.columns.specs.Series.{seriesNow, checksNow, seriesAt, checksAt};
 ghost use Rattle.drainage_drift.specs.Drift.{Ordered, correctedAt};
 ghost use Rattle.drainage_runs.specs.Runs.{missingAt};
-ghost use Rattle.drainage_gaps.specs.Gaps.{filledAt};
+ghost use Rattle.drainage_gaps.specs.Private.{filledAt};
 ghost use Rattle.drainage_device.specs.Device.{Right, Filled, Low};
 
 // A device's account: ten counts, one for each outcome, and its litres.
@@ -23,7 +23,7 @@ pub struct Account {
 // of a replacement.
 fn fill_series(reading: &[u16], count: u32, positions: &[u32], drifts: &[i32], used: &mut [u16])
     requires { ⌜ Ordered (record { count = count; positions = now positions; drifts = now drifts }) (length (now reading))
-        × (length (now used) ≡ length (now reading)) × (length (now reading) ≤ 35136) × Low (now reading) flowMost ⌝ }
+        × (length (now used) ≡ length (now reading)) × (length (now reading) ≤ intervalsMost) × Low (now reading) flowMost ⌝ }
     ensures { λ r. ⌜ now (used .exit)
         ≡ build (length (now (reading .entry)))
         (filledAt (now (reading .entry))

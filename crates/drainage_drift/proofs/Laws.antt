@@ -6,7 +6,8 @@ use mathlib.Core.Path.{_≡_, refl, sym, ap, ap₂, _∙_, subst}
 use mathlib.Core.Bool.{Bool, true, false}
 use mathlib.Core.List.{List}
 use mathlib.Core.Logic.{⊎-elim}
-use native.Mathlib.Nat.{mul-le-mul-left, div-le-of-le-mul, mul-div-cancel, not-suc-le-zero, le-step, lt-suc-self, eq-or-lt-of-le, le-of-suc-le-suc, le-trans, le-of-lt, lt-of-not-le, max-zero, le-max-left, le-max-right, max-eq-left, max-eq-right}
+use native.Mathlib.Nat.{mul-le-mul-left, div-le-of-le-mul, mul-div-cancel, not-suc-le-zero, le-step, lt-suc-self, eq-or-lt-of-le, le-of-suc-le-suc, le-trans}
+use native.Mathlib.Nat.{le-of-lt, lt-of-not-le, max-zero, le-max-left, le-max-right, max-eq-left, max-eq-right}
 use native.Mathlib.Decide.{decLe}
 use native.Mathlib.Omega.{arith}
 use lib.ListN.{length, getD}

@@ -1,7 +1,7 @@
--- Document 01's stretches and `together` mean the same: an interval's drift is the greatest excess among the checks of the
--- stretch that it lies in.
+-- The rule and its computing form are the same: an interval lies in one stretch, the drift taken out of it is the greatest of that
+-- stretch's failed checks, and its corrected value is what the rule says, and nothing else.
 -- Assumes nothing.
-use Prim.Native.Nat.{ℕ, zero, suc, _≤_, _<_}
+use Prim.Native.Nat.{ℕ, zero, suc, _+_, _-_, _≤_, _<_}
 use mathlib.Core.Path.{_≡_, refl, sym, ap, ap₂, _∙_, subst}
 use mathlib.Core.Bool.{Bool, true, false, not}
 use mathlib.Core.List.{List}
@@ -9,14 +9,17 @@ use mathlib.Core.Logic.{_⊎_, inl, inr, ⊎-elim}
 use native.Mathlib.Nat.{lt-of-not-le, le-of-suc-le-suc, le-refl, le-antisymm, eq-or-lt-of-le, not-suc-le-zero}
 use native.Mathlib.Decide.{decLe}
 use native.Mathlib.Omega.{arith}
-use lib.Dec.{ltb, leb}
+use lib.Dec.{ltb, leb, leb→le, le→leb}
 use lib.IntN.{ℤ, pos, negsuc}
+use lib.ListN.{getD}
+use lib.Signed.{_≤ℤ_}
 use borrow.Author.Tests.{ltb-true, leb-true, lt-ltb, le-ltb, le-leb, lt-leb}
 use Rattle.rows.specs.Rows.{pick, both, either}
 use Rattle.rows.proofs.Laws.{every-all, every-fails}
-use Rattle.protocol.specs.Ranges.{raised}
-use Rattle.drainage_drift.specs.Drift.{Instrument, positionOf, driftOf, passes, FailedIn, Greatest, parts, together, excess, maxTo, stretchDrift, keptOr, correctedAt, Ordered, PassedAt, Stretch}
-use Rattle.drainage_drift.proofs.Laws.{maxTo-ext, maxTo-most, maxTo-met, excess-passed, pick-zero}
+use Rattle.protocol.specs.Ranges.{raised, missing, mark}
+use Rattle.drainage_drift.specs.Drift.{Instrument, positionOf, driftOf, passes, Ordered, PassedAt, Stretch, FailedIn, Greatest, Becomes, Corrected}
+use Rattle.drainage_drift.specs.Drift.{corrected, parts, together, excess, maxTo, stretchDrift, correctedAt}
+use Rattle.drainage_drift.proofs.Laws.{maxTo-ext, maxTo-most, maxTo-met, excess-passed, pick-zero, corrected-none, at-missing, at-measured}
 
 -- by how much a check of the stretch from s to t reads high
 abbrev pub excessIn : Instrument → ℕ → ℕ → ℕ → ℕ
@@ -50,7 +53,7 @@ clash p q = let z : _≡_ {A = ℕ} 0 1 = cc in absurd (let w : ⊥ = omega arit
 -- ---- a stretch and the checks
 
 module _ (c : Instrument) (n s t i : ℕ) (o : Ordered c n) (x : Stretch c n s t) (low : s ≤ i) (high : i < t) where
-  -- "a failed check at 0 or N belongs to the stretch beside it": each from s to t does
+  -- each check from s to t belongs to it (rule 6.4)
   pub together-in : (j : ℕ) → s ≤ positionOf c j → positionOf c j ≤ t → together c j i ≡ true
   unfolding together
   together-in j a b =
@@ -92,7 +95,6 @@ module _ (c : Instrument) (n s t i : ℕ) (o : Ordered c n) (x : Stretch c n s t
         | no a ↦ together-before j (lt-of-not-le a) ∙ sym (ap (λ (b : Bool). both b (leb (positionOf c j) t)) (lt-leb s (positionOf c j) (lt-of-not-le a)))
       ]
 
-  -- "In a stretch with failed checks, d is their greatest drift"
   pub stretch-drift : stretchDrift c i ≡ maxTo (c .count) (excessIn c s t)
   unfolding stretchDrift
   stretch-drift =
@@ -100,6 +102,11 @@ module _ (c : Instrument) (n s t i : ℕ) (o : Ordered c n) (x : Stretch c n s t
       (λ j l. ap (λ (b : Bool). pick b (excess c j) 0) (together-is j l))
 
 -- ---- the greatest drift of a stretch
+
+-- d is what is taken out: the greatest drift of the failed checks, or 0 where that is not above 0
+pub record Taken (c : Instrument) (s t d : ℕ) : Type 0 where
+  pub most : (j : ℕ) → j < c .count → passes c j ≡ false → s ≤ positionOf c j → positionOf c j ≤ t → raised 0 (driftOf c j) ≤ d
+  pub met : 0 < d → FailedIn c s t (pos d)
 
 above-none : (z : ℤ) (d : ℕ) → raised 0 z ≡ d → 0 < d → z ≡ pos d
 above-none (pos n) d e h = ap pos (let w : n ≡ d = omega arith in w)
@@ -112,10 +119,10 @@ module _ (c : Instrument) (s t : ℕ) where
       ap₂ (λ (u v : Bool). pick (both u v) (excess c j) 0) a b ∙ ap (λ (u : Bool). pick u 0 (raised 0 (driftOf c j))) f
 
   -- an excess above 0 in the stretch is a failed check's
-  failed-in : (j d : ℕ) → j < c .count → excessIn c s t j ≡ d → 0 < d → FailedIn c s t d
+  failed-in : (j d : ℕ) → j < c .count → excessIn c s t j ≡ d → 0 < d → FailedIn c s t (pos d)
   failed-in j d l e h = go (leb s (positionOf c j)) refl (leb (positionOf c j) t) refl (passes c j) refl
     where
-      go : (x : Bool) → leb s (positionOf c j) ≡ x → (y : Bool) → leb (positionOf c j) t ≡ y → (z : Bool) → passes c j ≡ z → FailedIn c s t d
+      go : (x : Bool) → leb s (positionOf c j) ≡ x → (y : Bool) → leb (positionOf c j) t ≡ y → (z : Bool) → passes c j ≡ z → FailedIn c s t (pos d)
       go true a true b false f =
           record {
             check = j;
@@ -125,12 +132,14 @@ module _ (c : Instrument) (s t : ℕ) where
             before = leb-true (positionOf c j) t b;
             has = above-none (driftOf c j) d (sym (excess-in j a b f) ∙ e) h;
           }
-      go true a true b true f = absurd (let q = pick-zero (both (leb s (positionOf c j)) (leb (positionOf c j) t)) (excess c j) (excess-passed c j f) in let w : ⊥ = omega arith in w)
+      go true a true b true f =
+          let q = pick-zero (both (leb s (positionOf c j)) (leb (positionOf c j) t)) (excess c j) (excess-passed c j f) in
+          absurd (let w : ⊥ = omega arith in w)
       go true a false b z f = absurd (let q = ap₂ (λ (u v : Bool). pick (both u v) (excess c j) 0) a b in let w : ⊥ = omega arith in w)
       go false a y b z f = absurd (let q = ap (λ (u : Bool). pick (both u (leb (positionOf c j) t)) (excess c j) 0) a in let w : ⊥ = omega arith in w)
 
-  greatest-in : Greatest c s t (maxTo (c .count) (excessIn c s t))
-  greatest-in =
+  taken-in : Taken c s t (maxTo (c .count) (excessIn c s t))
+  taken-in =
       record {
         most = λ j l f a b. subst (λ (r : ℕ). r ≤ maxTo (c .count) (excessIn c s t))
             (excess-in j (le-leb s (positionOf c j) a) (le-leb (positionOf c j) t b) f)
@@ -139,28 +148,21 @@ module _ (c : Instrument) (s t : ℕ) where
             failed-in (m .place) (maxTo (c .count) (excessIn c s t)) (m .below) (m .value) h;
       }
 
-  no-less : (d e : ℕ) → Greatest c s t d → Greatest c s t e → d ≤ e
+  no-less : (d e : ℕ) → Taken c s t d → Taken c s t e → d ≤ e
   no-less d e x y = elim (decLe d 0) [ yes h ↦ omega arith | no h ↦ met (x .met (lt-of-not-le h)) ]
     where
-      met : FailedIn c s t d → d ≤ e
+      met : FailedIn c s t (pos d) → d ≤ e
       met w =
           let q = y .most (w .check) (w .counted) (w .failed) (w .after) (w .before) in
           let r = ap (raised 0) (w .has) in
           omega arith
 
-  pub greatest-unique : (d e : ℕ) → Greatest c s t d → Greatest c s t e → d ≡ e
-  greatest-unique d e x y = le-antisymm (no-less d e x y) (no-less e d y x)
+  pub taken-unique : (d e : ℕ) → Taken c s t d → Taken c s t e → d ≡ e
+  taken-unique d e x y = le-antisymm (no-less d e x y) (no-less e d y x)
 
 -- what is taken out of an interval is the greatest drift of its stretch
-pub drift-greatest : (c : Instrument) (n s t i : ℕ) → Ordered c n → Stretch c n s t → s ≤ i → i < t → Greatest c s t (stretchDrift c i)
-drift-greatest c n s t i o x low high = subst (Greatest c s t) (sym (stretch-drift c n s t i o x low high)) (greatest-in c s t)
-
--- so a corrected reading is what document 01 says of the interval's stretch and of that stretch's greatest drift d
-pub corrected-in : (c : Instrument) (reading : List ℕ) (n s t i d : ℕ) → Ordered c n → Stretch c n s t → s ≤ i → i < t → Greatest c s t d
-    → correctedAt c reading i ≡ keptOr d reading i
-unfolding correctedAt
-corrected-in c reading n s t i d o x low high g =
-    ap (λ (e : ℕ). keptOr e reading i) (greatest-unique c s t (stretchDrift c i) d (drift-greatest c n s t i o x low high) g)
+pub drift-taken : (c : Instrument) (n s t i : ℕ) → Ordered c n → Stretch c n s t → s ≤ i → i < t → Taken c s t (stretchDrift c i)
+drift-taken c n s t i o x low high = subst (Taken c s t) (sym (stretch-drift c n s t i o x low high)) (taken-in c s t)
 
 -- ---- each interval lies in a stretch, and in one only
 
@@ -242,7 +244,7 @@ module _ (c : Instrument) (n i : ℕ) where
   stretch-around h = around (c .count) (le-refl (c .count)) h
 
   pub around-stretch : (x : Around c n i (c .count)) → Stretch c n (x .from) (x .to)
-  around-stretch x = record { opens = x .opens; closes = x .closes; uncut = x .uncut }
+  around-stretch x = record { some = omega (arith, x .low, x .high); opens = x .opens; closes = x .closes; uncut = x .uncut }
 
   module _ (o : Ordered c n) where
     starts-first : (s t r u : ℕ) → Stretch c n s t → Stretch c n r u → s ≤ i → i < t → r ≤ i → r ≤ s
@@ -270,3 +272,79 @@ module _ (c : Instrument) (n i : ℕ) where
       le-antisymm (starts-first r u s t y x d e a) (starts-first s t r u x y a b d),
       le-antisymm (ends-last s t r u x y a b e) (ends-last r u s t y x d e b),
     )
+
+-- ---- the rule and the computed value
+
+le-raised : (z : ℤ) (d : ℕ) → z ≤ℤ pos d → raised 0 z ≤ d
+le-raised (pos n) d h = let w = leb→le n d (h .le) in omega arith
+le-raised (negsuc n) d h = let w : 0 - (n + 1) ≤ d = omega arith in w
+
+raised-le : (z : ℤ) (d : ℕ) → raised 0 z ≤ d → z ≤ℤ pos d
+raised-le (pos n) d h = record { le = le→leb n d (omega arith) }
+raised-le (negsuc n) d h = record { le = tt }
+
+-- a drift above 0 is the greatest exactly if it is what is taken out
+module _ (c : Instrument) (s t d : ℕ) (h : 0 < d) where
+  greatest-taken : Greatest c s t (pos d) → Taken c s t d
+  greatest-taken g =
+      record {
+        most = λ j l f a b. le-raised (driftOf c j) d
+            (g .most (driftOf c j) (record { check = j; counted = l; failed = f; after = a; before = b; has = refl }));
+        met = λ z. g .met;
+      }
+
+  taken-greatest : Taken c s t d → Greatest c s t (pos d)
+  taken-greatest x =
+      record {
+        met = x .met h;
+        most = λ e w. subst (λ (z : ℤ). z ≤ℤ pos d) (w .has)
+            (raised-le (driftOf c (w .check)) d (x .most (w .check) (w .counted) (w .failed) (w .after) (w .before)));
+      }
+
+module _ (c : Instrument) (n s t i : ℕ) (o : Ordered c n) (x : Stretch c n s t) (low : s ≤ i) (high : i < t) where
+  taken : Taken c s t (stretchDrift c i)
+  taken = drift-taken c n s t i o x low high
+
+  -- whatever the rule makes of a value is the computed one
+  becomes-of : (v w : ℕ) → Becomes c s t v w → w ≡ corrected (stretchDrift c i) v
+  becomes-of v w b =
+      elim (decLe (stretchDrift c i) 0) [
+        | yes h ↦ b .stays (λ d l g. none h d l g) ∙ sym (ap (λ (e : ℕ). corrected e v) (let z : stretchDrift c i ≡ 0 = omega arith in z) ∙ corrected-none v)
+        | no h ↦ b .lowered (stretchDrift c i) (lt-of-not-le h) (taken-greatest c s t (stretchDrift c i) (lt-of-not-le h) taken)
+      ]
+    where
+      none : stretchDrift c i ≤ 0 → (d : ℕ) → 0 < d → Greatest c s t (pos d) → ⊥
+      none h d l g = let q = taken-unique c s t (stretchDrift c i) d taken (greatest-taken c s t d l g) in omega arith
+
+  -- and the computed one is what the rule makes of it
+  becomes-is : (v : ℕ) → Becomes c s t v (corrected (stretchDrift c i) v)
+  becomes-is v =
+      record {
+        lowered = λ d h g. ap (λ (e : ℕ). corrected e v) (taken-unique c s t (stretchDrift c i) d taken (greatest-taken c s t d h g));
+        stays = λ f. elim (decLe (stretchDrift c i) 0) [
+          | yes h ↦ ap (λ (e : ℕ). corrected e v) (let z : stretchDrift c i ≡ 0 = omega arith in z) ∙ corrected-none v
+          | no h ↦ absurd (f (stretchDrift c i) (lt-of-not-le h) (taken-greatest c s t (stretchDrift c i) (lt-of-not-le h) taken))
+        ];
+      }
+
+-- the computed reading is what the rule says
+pub corrected-is : (c : Instrument) (n : ℕ) (reading : List ℕ) (i : ℕ) → Ordered c n → Corrected c n reading i (correctedAt c reading i)
+corrected-is c n reading i o =
+    record {
+      marked = at-missing c reading i;
+      measured = λ e s t x low high. subst (Becomes c s t (getD reading i mark)) (sym (at-measured c reading i e))
+          (becomes-is c n s t i o x low high (getD reading i mark));
+    }
+
+-- whatever the rule says is the computed reading
+pub corrected-of : (c : Instrument) (n : ℕ) (reading : List ℕ) (i w : ℕ) → Ordered c n → i < n → Corrected c n reading i w
+    → w ≡ correctedAt c reading i
+corrected-of c n reading i w o h x = go (missing (getD reading i mark)) refl
+  where
+    go : (b : Bool) → missing (getD reading i mark) ≡ b → w ≡ correctedAt c reading i
+    go true e = x .marked e ∙ sym (at-missing c reading i e)
+    go false e =
+        let a = stretch-around c n i h in
+        let z = around-stretch c n i a in
+        becomes-of c n (a .from) (a .to) i o z (a .low) (a .high) (getD reading i mark) w (x .measured e (a .from) (a .to) z (a .low) (a .high))
+        ∙ sym (at-measured c reading i e)

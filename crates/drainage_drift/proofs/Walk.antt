@@ -5,7 +5,7 @@ use mathlib.Core.Path.{_≡_, refl, sym, ap, ap₂, _∙_, subst}
 use mathlib.Core.Bool.{Bool, true, false}
 use mathlib.Core.List.{List, _++_}
 use mathlib.Core.Logic.{_⊎_, inl, inr, ⊎-elim}
-use native.Mathlib.Nat.{lt-of-not-le, le-refl, not-suc-le-zero, eq-or-lt-of-le, le-of-suc-le-suc, max-eq-left, add-max-add-right}
+use native.Mathlib.Nat.{lt-of-not-le, le-refl, not-suc-le-zero, eq-or-lt-of-le, max-eq-left, add-max-add-right}
 use native.Mathlib.Numerals.{add-one}
 use native.Mathlib.Decide.{decLe}
 use native.Mathlib.Omega.{arith}
@@ -21,7 +21,8 @@ use Rattle.rows.specs.Rows.{pick, both, build, Continued}
 use Rattle.rows.proofs.Laws.{build-done}
 use Rattle.rows.proofs.Fill.{continued-more}
 use Rattle.protocol.specs.Ranges.{raised}
-use Rattle.drainage_drift.specs.Drift.{Instrument, within, positionOf, driftOf, passes, excess, maxTo, stretchDrift, keptOr, correctedAt, Ordered, PassedAt}
+use Rattle.drainage_drift.specs.Drift.{Instrument, within, positionOf, driftOf, passes, excess, maxTo, stretchDrift, keptOr, correctedAt, Ordered}
+use Rattle.drainage_drift.specs.Drift.{PassedAt}
 use Rattle.drainage_drift.proofs.Laws.{maxTo-cut, maxTo-zero, excess-passed, pick-zero}
 use Rattle.drainage_drift.proofs.Stretches.{excessIn, stretch-drift, clash}
 
@@ -130,7 +131,7 @@ module _ (c : Instrument) (reading old : List ℕ) where
         → (i : ℕ) → start ≤ i → i < t → stretchDrift c i ≡ divisor - 10000
     closed t z below above i low high =
         stretch-drift c (length reading) start t i (x .ordered)
-        (record { opens = x .opens; closes = z; uncut = uncut })
+        (record { some = omega (arith, low, high); opens = x .opens; closes = z; uncut = uncut })
         low high
         ∙ maxTo-cut (c .count) j (excessIn c start t) (excessFrom c start) (x .counted) near far
         ∙ (let q = x .greatest in let w : maxTo j (excessFrom c start) ≡ divisor - 10000 = omega arith in w)

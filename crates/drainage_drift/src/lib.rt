@@ -3,17 +3,21 @@ ghost use Prim.Native.Nat.{ℕ, _≤_, _<_, _-_, _*_, _/_, max};
 ghost use mathlib.Core.Path.{_≡_};
 ghost use lib.ListN.{length, getD};
 ghost use Rattle.rows.specs.Rows.{build, Continued};
-ghost use Rattle.drainage_drift.specs.Drift.{within, keptOr, correctedAt, Ordered};
+ghost use Rattle.drainage_drift.specs.Drift.{within, full, keptOr, correctedAt, Ordered};
 use protocol::MISSING;
+use protocol::PASSING;
+
+// 100 % in 0.01 %, the unit of a drift.
+const FULL: u64 = 10000;
 
 // Whether a check passes. Ruled out: 500 passes; -500 passes.
 pub fn passed(drift: i32) -> bool
     ensures { λ r. ⌜ r ≡ within drift ⌝ }
 {
-    if drift < -499 {
+    if drift < -PASSING {
         return false;
     }
-    !(499 < drift)
+    !(PASSING < drift)
 }
 
 fn greater(a: u64, b: u64) -> u64
@@ -22,12 +26,12 @@ fn greater(a: u64, b: u64) -> u64
     if a < b { b } else { a }
 }
 
-// "v × 10,000 / (10,000 + d), rounded down", the divisor being 10,000 + d.
+// A value without its drift, rounded down; the divisor is 100 % and the drift.
 fn scaled(v: u64, divisor: u64) -> u64
-    requires { ⌜ (v < 65536) × (10000 ≤ divisor) ⌝ }
-    ensures { λ r. ⌜ r ≡ v * 10000 / divisor ⌝ }
+    requires { ⌜ (v < 65536) × (full ≤ divisor) ⌝ }
+    ensures { λ r. ⌜ r ≡ v * full / divisor ⌝ }
 {
-    v * 10000 / divisor
+    v * FULL / divisor
 }
 
 // The readings from start up to end as they are: where no drift was found nothing is divided.
@@ -42,12 +46,12 @@ fn copied(reading: &[u16], start: usize, end: usize, used: &mut [u16])
     }
 }
 
-// The readings from start up to end, with a drift of divisor - 10,000 taken out.
+// The readings from start up to end, with a drift of the divisor less 100 % taken out.
 fn stretch(reading: &[u16], start: usize, end: usize, divisor: u64, used: &mut [u16])
-    requires { ⌜ (start ≤ end) × (end ≤ length (now reading)) × (length (now used) ≡ length (now reading)) × (10000 ≤ divisor) ⌝ }
-    ensures { λ r. ⌜ Continued start end (keptOr (divisor - 10000) (now (reading .entry))) (now (used .entry)) (now (used .exit)) ⌝ }
+    requires { ⌜ (start ≤ end) × (end ≤ length (now reading)) × (length (now used) ≡ length (now reading)) × (full ≤ divisor) ⌝ }
+    ensures { λ r. ⌜ Continued start end (keptOr (divisor - full) (now (reading .entry))) (now (used .entry)) (now (used .exit)) ⌝ }
 {
-    if divisor == 10000 {
+    if divisor == FULL {
         copied(reading, start, end, used);
         return;
     }
@@ -76,8 +80,8 @@ pub fn correct(reading: &[u16], count: u32, positions: &[u32], drifts: &[i32], u
     let n = reading.len();
     let k = count as usize;
     let mut start = 0;
-    // 10,000 and the greatest drift of the open stretch: never below 10,000, so that nothing is corrected upward.
-    let mut divisor = 10000;
+    // 100 % and the greatest drift of the open stretch: never below 100 %, so that nothing is corrected upward.
+    let mut divisor = FULL;
     let mut j = 0;
     while j < k {
         let drift = drifts[j];
@@ -85,10 +89,10 @@ pub fn correct(reading: &[u16], count: u32, positions: &[u32], drifts: &[i32], u
             let end = positions[j] as usize;
             stretch(reading, start, end, divisor, used);
             start = end;
-            divisor = 10000;
+            divisor = FULL;
             j += 1;
         } else {
-            divisor = greater(divisor, protocol::raise(drift, 10000));
+            divisor = greater(divisor, protocol::raise(drift, FULL));
             j += 1;
         }
     }

@@ -12,7 +12,7 @@ use Rattle.protocol.specs.Numbers.{protocol, methaneMg}
 use Rattle.protocol.specs.Ranges.{kelvinOf, contentMost}
 use Rattle.volume.specs.Volume.{litresOf, methaneOf, methaneLitres}
 use Rattle.balance.specs.Balance.{destroyedOf, uncombustedOf, baselineMg, carbonDioxideMg, uncombustedMg, fuelMg, baselineAll, carbonDioxideAll, uncombustedAll, reductionOf, reductionAll, tonnesOf}
-use Rattle.balance.proofs.Integers.{is-sub}
+use Rattle.protocol.proofs.Integers.{is-sub}
 use Rattle.balance.proofs.Laws.{reduction-ext}
 use Rattle.drainage_exact.specs.Fraction.{Fraction, over, whole, _-ᶠ_, _*ᶠ_, sumᶠ}
 use Rattle.drainage_exact.specs.Exact.{Used, Sound, Fair, exactLitres, exactMethane, exactQ, exactDeviceMg, exactReduction, reportedQ, reportedTonnes, countedOf, countedAll, intervalMg, deviceMg, promised}

@@ -10,7 +10,7 @@ use Rattle.protocol.specs.Numbers.{carbonMg}
 use Rattle.protocol.proofs.KindLaws.{thousandths-most}
 use Rattle.balance.specs.Balance.{destroyedOf, uncombustedOf, carbonDioxideMg}
 use Rattle.balance.proofs.Laws.{partition}
-use Rattle.balance.proofs.Integers.{is-pos, is-minus, is-times}
+use Rattle.protocol.proofs.Integers.{is-pos, is-minus, is-times}
 use Rattle.drainage_exact.specs.Fraction.{Fraction, over, whole}
 use Rattle.drainage_exact.specs.Exact.{exactDestroyed, exactUncombusted, exactUnburntMg, exactCarbonMg, exactDeviceMg}
 use Rattle.drainage_exact.proofs.Near.{Near, near-is}

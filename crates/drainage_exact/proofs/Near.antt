@@ -7,7 +7,7 @@ use native.Mathlib.Omega.{arith}
 use lib.IntN.{ℤ, pos, _+ℤ_, _*ℤ_}
 use Rattle.rows.specs.Rows.{sumTo}
 use Rattle.balance.specs.Balance.{tonne, tonnesOf}
-use Rattle.balance.proofs.Integers.{Is, Floor, above, below, is-self, is-pos, is-add, is-minus, is-times, is-le, is-lt}
+use Rattle.protocol.proofs.Integers.{Is, Floor, above, below, is-self, is-pos, is-add, is-minus, is-times, is-le, is-lt}
 use Rattle.balance.proofs.Laws.{tonnes-floor}
 use Rattle.drainage_exact.specs.Fraction.{Fraction, whole, _+ᶠ_, _-ᶠ_, sumᶠ}
 use Rattle.drainage_exact.specs.Exact.{Fair}

@@ -13,15 +13,17 @@ use lib.ListN.{length, getD, drop, length-append, length-drop, List·getD-append
 use lib.Seq.{drop-cons, getD-append-add, getD-drop}
 use Rattle.rows.specs.Rows.{pick, build, every, Continued}
 use Rattle.rows.proofs.Laws.{length-build, getD-build, build-done, every-at, every-all}
-use Rattle.protocol.specs.Ranges.{mark, flowMost}
+use Rattle.protocol.specs.Ranges.{intervalsMost, mark, flowMost}
 use Rattle.drainage_runs.specs.Runs.{missingAt, measuredAt, gapStart, gapEnd}
+use Rattle.drainage_runs.specs.Private.{block}
 use Rattle.drainage_runs.proofs.Laws.{start-zero, start-new, of-gap, end-most, end-measured}
-use Rattle.drainage_gaps.specs.Gaps.{replacementOf, replacementAt, heldFor, filledAt, Goes}
+use Rattle.drainage_gaps.specs.Gaps.{replacementOf, replacementAt}
+use Rattle.drainage_gaps.specs.Private.{heldFor, filledAt, Goes}
 use Rattle.drainage_gaps.proofs.Laws.{Agree, same-replacement}
 
 pub record Filling (reading corrected used : List ℕ) (i : ℕ) : Type 0 where
   pub within : i ≤ length reading
-  pub few : length reading ≤ 35136
+  pub few : length reading ≤ intervalsMost
   pub goes : Goes reading corrected flowMost
   pub fresh : i < length reading → missingAt reading i ≡ true → gapStart reading i ≡ i
   pub filled : used ≡ build i (filledAt reading corrected) ++ drop i corrected
@@ -47,7 +49,7 @@ unfolding replacementAt
 one-gap reading corrected a e k x y = ap₂ (replacementOf reading corrected) x y
 
 module _ (reading corrected used : List ℕ) where
-  pub filling-start : length reading ≤ 35136 → Goes reading corrected flowMost → used ≡ corrected → Filling reading corrected used 0
+  pub filling-start : length reading ≤ intervalsMost → Goes reading corrected flowMost → used ≡ corrected → Filling reading corrected used 0
   filling-start l g e =
       record { within = omega arith; few = l; goes = g; fresh = λ l h. start-zero reading; filled = e }
 
@@ -133,7 +135,9 @@ module _ (reading corrected used : List ℕ) where
         same k a b =
             let g = of-gap reading i k (v .within) a (subst (λ (x : ℕ). k < x) q b) in
             filled-missing reading corrected k (g .is-missing)
-            ∙ ap heldFor (one-gap reading corrected i e k (g .starts ∙ v .fresh l m) (g .stops ∙ sym q) ∙ sym (same-replacement reading used corrected i e (v .goes .same-length) (v .within) agrees))
+            ∙ ap heldFor
+            (one-gap reading corrected i e k (g .starts ∙ v .fresh l m) (g .stops ∙ sym q)
+            ∙ sym (same-replacement reading used corrected i e (v .goes .same-length) (v .within) agrees))
 
     pub filling-done : length reading ≤ i → used ≡ build (length reading) (filledAt reading corrected)
     filling-done h =
@@ -166,6 +170,6 @@ next-one reading i e =
     every-all (i + 1 - i) (λ k. measuredAt reading (i + k))
     (λ k h. subst (λ (x : ℕ). measuredAt reading x ≡ true) (let z : i ≡ i + k = omega arith in z) e)
 
-pub next-16 : (reading : List ℕ) (i : ℕ) → every 16 (λ k. measuredAt reading (i + k)) ≡ true
-    → every (i + 16 - i) (λ k. measuredAt reading (i + k)) ≡ true
-next-16 reading i e = ap (λ (n : ℕ). every n (λ k. measuredAt reading (i + k))) (let z : i + 16 - i ≡ 16 = omega arith in z) ∙ e
+pub next-block : (reading : List ℕ) (i : ℕ) → every block (λ k. measuredAt reading (i + k)) ≡ true
+    → every (i + block - i) (λ k. measuredAt reading (i + k)) ≡ true
+next-block reading i e = ap (λ (n : ℕ). every n (λ k. measuredAt reading (i + k))) (let z : i + block - i ≡ block = omega arith in z) ∙ e

@@ -8,31 +8,28 @@ use native.Mathlib.Omega.{arith}
 use lib.Dec.{leb}
 use lib.ListN.{length, getD}
 use lib.Seq.{ext-getD}
-use borrow.Author.Tests.{le-leb, lt-leb}
 use Rattle.rows.specs.Rows.{pick, cut}
 use Rattle.rows.proofs.Laws.{length-cut, getD-cut, getD-inside}
-use Rattle.protocol.specs.Ranges.{mark}
-use Rattle.drainage_window.specs.Window.{tallyOf, meanOf, limitOf, z90, z95, Low, Windows}
+use Rattle.protocol.specs.Ranges.{mark, flowMost}
+use Rattle.drainage_window.specs.Window.{tallyOf, meanOf, limitOf, meanWidth, width90, width95, z90, z95}
+use Rattle.drainage_window.specs.Sizes.{Low, Windows}
 use Rattle.drainage_window.specs.declared.Tally.{Tally}
 use Rattle.drainage_window.proofs.Laws.{tally-most, mean-most, limit-most, low-append}
-use Rattle.drainage_runs.specs.Runs.{missingAt, gapStart, gapEnd, whole}
+use Rattle.drainage_runs.specs.Runs.{missingAt, gapStart, gapEnd, whole, tooLong, notWhole}
+use Rattle.drainage_runs.specs.Private.{excluding}
 use Rattle.drainage_runs.proofs.Laws.{whole-before, whole-after, start-least}
-use Rattle.drainage_gaps.specs.Gaps.{widthOf, ruleOf, windowValues, replacementOf, replacementAt, Goes}
-use Rattle.drainage_gaps.specs.declared.Replacement.the-variants.{Value, TooLong, NotWhole}
+use Rattle.drainage_gaps.specs.Gaps.{Replaced, classOf, takenBy, windowValues, replacedIn, replacementOf, replacementAt}
+use Rattle.drainage_gaps.specs.Private.{heldFor, Goes}
+use Rattle.drainage_gaps.specs.declared.Rule.{Rule}
+use Rattle.drainage_gaps.specs.declared.Rule.the-variants.{Mean, Limit}
+use Rattle.drainage_gaps.specs.declared.Class.{Class}
+use Rattle.drainage_gaps.specs.declared.Class.the-variants.{Of, TooLong}
+use Rattle.drainage_gaps.specs.declared.Replacement.the-variants.{Value, NotWhole}
 
 -- two rows of values agree wherever the reading is measured
 pub record Agree (reading used corrected : List ℕ) : Type 0 where
   pub same-length : length used ≡ length corrected
   pub same : (k : ℕ) → missingAt reading k ≡ false → getD used k mark ≡ getD corrected k mark
-
-pub width-some : (g : ℕ) → 0 < widthOf g
-unfolding widthOf
-width-some g = go (leb g 23) (leb g 95)
-  where
-    go : (p q : Bool) → 0 < pick p 16 (pick q 96 288)
-    go true q = omega arith
-    go false true = omega arith
-    go false false = omega arith
 
 -- ---- a whole window before and after a gap
 
@@ -92,161 +89,160 @@ module _ (reading : List ℕ) (a e w : ℕ) (h : whole reading a e w ≡ true) w
     pub low-after : Low b (cut corrected e (e + w))
     low-after = low-part e (e + w) (omega arith) (reach-after s) measured-after
 
+-- ---- the lines of the table
+
+pub record Fits (w : ℕ) (rule : Rule) : Type 0 where
+  pub some : 0 < w
+  pub few : w ≤ width95
+  pub mean : rule ≡ Mean → w ≡ meanWidth
+  pub limit : (z : ℕ) → rule ≡ Limit z → z ≤ z95
+
+pub class-fits : (gap w : ℕ) (rule : Rule) → Of w rule ≡ classOf gap → Fits w rule
+unfolding classOf
+class-fits gap w rule e = go (leb gap 23) (leb gap 95) (leb gap 672) e
+  where
+    limited : (v y : ℕ) → 0 < v → v ≤ width95 → y ≤ z95 → Of w rule ≡ Of v (Limit y) → Fits w rule
+    limited v y s f m q =
+        let n : w ≡ v = cc in
+        record {
+          some = omega arith;
+          few = omega arith;
+          mean = λ r. let x : _≡_ {A = ℕ} 0 1 = cc in absurd (let o : ⊥ = omega arith in o);
+          limit = λ z r. let x : z ≡ y = cc in omega arith;
+        }
+
+    go : (p q r : Bool)
+        → Of w rule ≡ pick p (Of meanWidth Mean) (pick q (Of width90 (Limit z90)) (pick r (Of width95 (Limit z95)) TooLong)) → Fits w rule
+    go true q r z =
+        let n : w ≡ meanWidth = cc in
+        record {
+          some = omega arith;
+          few = omega arith;
+          mean = λ y. n;
+          limit = λ y f. let x : _≡_ {A = ℕ} 0 1 = cc in absurd (let o : ⊥ = omega arith in o);
+        }
+    go false true r z = limited width90 z90 (omega arith) (omega arith) (omega arith) z
+    go false false true z = limited width95 z95 (omega arith) (omega arith) (omega arith) z
+    go false false false z = let x : _≡_ {A = ℕ} 0 1 = cc in absurd (let o : ⊥ = omega arith in o)
+
 -- ---- the replacement
 
 -- it is the same for rows that agree wherever a reading is measured
 pub same-replacement : (reading used corrected : List ℕ) (a e : ℕ) → length corrected ≡ length reading → a ≤ length reading
     → Agree reading used corrected → replacementOf reading used a e ≡ replacementOf reading corrected a e
 unfolding replacementOf
-same-replacement reading used corrected a e n r g = go (whole reading a e (widthOf (e - a))) refl
+same-replacement reading used corrected a e n r g = go (classOf (e - a)) refl
   where
-    go : (b : Bool) → whole reading a e (widthOf (e - a)) ≡ b
-        → pick (leb 673 (e - a)) TooLong (pick b (Value (ruleOf (e - a) (tallyOf (windowValues used a e (widthOf (e - a)))))) NotWhole)
-        ≡ pick (leb 673 (e - a)) TooLong (pick b (Value (ruleOf (e - a) (tallyOf (windowValues corrected a e (widthOf (e - a)))))) NotWhole)
-    go true q =
-        ap (λ (xs : List ℕ). pick (leb 673 (e - a)) TooLong (Value (ruleOf (e - a) (tallyOf xs))))
-        (same-windows reading a e (widthOf (e - a)) q used corrected (width-some (e - a)) n r g)
-    go false q = refl
+    found : (w : ℕ) (rule : Rule) → 0 < w → (b : Bool) → whole reading a e w ≡ b
+        → pick b (Replaced.by (takenBy rule (tallyOf (windowValues used a e w)))) (Replaced.excluded notWhole)
+        ≡ pick b (Replaced.by (takenBy rule (tallyOf (windowValues corrected a e w)))) (Replaced.excluded notWhole)
+    found w rule s true q =
+        ap (λ (xs : List ℕ). Replaced.by (takenBy rule (tallyOf xs))) (same-windows reading a e w q used corrected s n r g)
+    found w rule s false q = refl
 
-rule-most : (gap b : ℕ) (t : Tally) → t .sum ≤ t .n * b → ruleOf gap t ≤ b
-unfolding ruleOf
-rule-most gap b t h = go (leb gap 23) (leb gap 95)
-  where
-    go : (p q : Bool) → pick p (meanOf t) (pick q (limitOf t z90) (limitOf t z95)) ≤ b
-    go true q = mean-most t b h
-    go false true = limit-most t z90 b h
-    go false false = limit-most t z95 b h
+    go : (c : Class) → c ≡ classOf (e - a) → replacedIn reading used a e c ≡ replacedIn reading corrected a e c
+    go TooLong q = refl
+    go (Of w rule) q = found w rule (class-fits (e - a) w rule q .some) (whole reading a e w) refl
 
--- ---- the replacement by cases, as the code goes through them
+taken-most : (rule : Rule) (b : ℕ) (t : Tally) → t .sum ≤ t .n * b → takenBy rule t ≤ b
+taken-most Mean b t h = mean-most t b h
+taken-most (Limit z) b t h = limit-most t z b h
 
-module _ (reading corrected : List ℕ) (a e : ℕ) where
-  pub replaced-long : 673 ≤ e - a → TooLong ≡ replacementOf reading corrected a e
-  unfolding replacementOf
-  replaced-long h =
-      sym (ap (λ (b : Bool). pick b TooLong
-      (pick (whole reading a e (widthOf (e - a))) (Value (ruleOf (e - a) (tallyOf (windowValues corrected a e (widthOf (e - a)))))) NotWhole))
-      (le-leb 673 (e - a) h))
+-- by the code's evidence of the rule
+pub taken-mean : {rule : Rule} {r : ℕ} (t : Tally) → rule ≡ Mean → r ≡ meanOf t → r ≡ takenBy rule t
+taken-mean t p q = q ∙ sym (ap (λ (x : Rule). takenBy x t) p)
 
-  module _ (h : e - a < 673) where
-    by-window : (b : Bool) → whole reading a e (widthOf (e - a)) ≡ b
-        → replacementOf reading corrected a e
-        ≡ pick b (Value (ruleOf (e - a) (tallyOf (windowValues corrected a e (widthOf (e - a)))))) NotWhole
-    unfolding replacementOf
-    by-window b q =
-        ap₂ (λ (l w : Bool). pick l TooLong (pick w (Value (ruleOf (e - a) (tallyOf (windowValues corrected a e (widthOf (e - a)))))) NotWhole))
-        (lt-leb 673 (e - a) h) q
-
-    pub replaced-not : whole reading a e (widthOf (e - a)) ≡ false → NotWhole ≡ replacementOf reading corrected a e
-    replaced-not q = sym (by-window false q)
-
-    pub replaced-value : whole reading a e (widthOf (e - a)) ≡ true
-        → Value (ruleOf (e - a) (tallyOf (windowValues corrected a e (widthOf (e - a))))) ≡ replacementOf reading corrected a e
-    replaced-value q = sym (by-window true q)
-
--- what is asked of the two windows before they are summed
-windows-right : (reading corrected : List ℕ) (a e w : ℕ) → whole reading a e w ≡ true → 0 < w → w ≤ 288 → a ≤ length reading
-    → Goes reading corrected 30000 → Windows (cut corrected (a - w) a) (cut corrected e (e + w))
-windows-right reading corrected a e w h s l r g =
-    let before : w ≤ a = reach-before reading a e w h in
-    let after : e + w ≤ length reading = reach-after reading a e w h s in
-    let one : length (cut corrected (a - w) a) ≡ a - (a - w) = length-cut corrected (a - w) a (omega arith) (omega (arith, g .same-length)) in
-    let two : length (cut corrected e (e + w)) ≡ e + w - e = length-cut corrected e (e + w) (omega arith) (omega (arith, g .same-length)) in
-    record {
-      some = omega arith;
-      few-before = omega arith;
-      few-after = omega arith;
-      low-before = low-before reading a e w h corrected 30000 s r g;
-      low-after = low-after reading a e w h corrected 30000 s r g;
-    }
+pub taken-limit : {rule : Rule} {r z : ℕ} (t u : Tally) → rule ≡ Limit z → t ≡ u → r ≡ limitOf t z → r ≡ takenBy rule u
+taken-limit {rule} {r} {z} t u p e q = q ∙ ap (λ (x : Tally). limitOf x z) e ∙ sym (ap (λ (x : Rule). takenBy x u) p)
 
 -- a replacement is no more than what measured values are
-pub value-most : (reading corrected : List ℕ) (a e b : ℕ) → whole reading a e (widthOf (e - a)) ≡ true → a ≤ length reading
-    → Goes reading corrected b → ruleOf (e - a) (tallyOf (windowValues corrected a e (widthOf (e - a)))) ≤ b
+pub value-most : (reading corrected : List ℕ) (a e w b : ℕ) (rule : Rule) → whole reading a e w ≡ true → 0 < w → a ≤ length reading
+    → Goes reading corrected b → takenBy rule (tallyOf (windowValues corrected a e w)) ≤ b
 unfolding windowValues
-value-most reading corrected a e b h r g =
-    let w = widthOf (e - a) in
-    rule-most (e - a) b (tallyOf (cut corrected (a - w) a ++ cut corrected e (e + w)))
+value-most reading corrected a e w b rule h s r g =
+    taken-most rule b (tallyOf (cut corrected (a - w) a ++ cut corrected e (e + w)))
     (tally-most b (cut corrected (a - w) a ++ cut corrected e (e + w))
     (low-append b (cut corrected (a - w) a) (cut corrected e (e + w))
-    (low-before reading a e w h corrected b (width-some (e - a)) r g)
-    (low-after reading a e w h corrected b (width-some (e - a)) r g)))
+    (low-before reading a e w h corrected b s r g)
+    (low-after reading a e w h corrected b s r g)))
 
 -- ---- a gap whose windows are whole, as the code has it once it has looked at them
 
-pub record Ready (reading used : List ℕ) (a e w : ℕ) : Type 0 where
+pub record Ready (reading used : List ℕ) (a e w : ℕ) (rule : Rule) : Type 0 where
   pub order : a < e
   pub inside : e ≤ length reading
-  pub goes : Goes reading used 30000
-  pub short : e - a < 673
-  pub is-width : w ≡ widthOf (e - a)
-  pub few : w ≤ 288
-  pub some : 0 < w
+  pub goes : Goes reading used flowMost
+  pub fits : Fits w rule
   pub is-whole : whole reading a e w ≡ true
 
-width-16 : (g : ℕ) → g ≤ 23 → widthOf g ≡ 16
-unfolding widthOf
-width-16 g h = simp (le-leb g 23 h)
-
-rule-mean : (g : ℕ) (t : Tally) → g ≤ 23 → meanOf t ≡ ruleOf g t
-unfolding ruleOf
-rule-mean g t h = sym (simp (le-leb g 23 h))
-
-module _ {reading used : List ℕ} {a e w : ℕ} (d : Ready reading used a e w) where
+module _ {reading used : List ℕ} {a e w : ℕ} {rule : Rule} (d : Ready reading used a e w rule) where
   pub ready-before : w ≤ a
   ready-before = reach-before reading a e w (d .is-whole)
 
   pub ready-after : e + w ≤ length used
-  ready-after = let z : e + w ≤ length reading = reach-after reading a e w (d .is-whole) (d .some) in omega (arith, d .goes .same-length)
+  ready-after = let z : e + w ≤ length reading = reach-after reading a e w (d .is-whole) (d .fits .some) in omega (arith, d .goes .same-length)
 
+  length-before : length (cut used (a - w) a) ≡ w
+  length-before =
+      let b : w ≤ a = ready-before in
+      length-cut used (a - w) a (omega arith) (omega (arith, d .order, d .inside, d .goes .same-length)) ∙ (let z : a - (a - w) ≡ w = omega arith in z)
+
+  length-after : length (cut used e (e + w)) ≡ w
+  length-after = length-cut used e (e + w) (omega arith) ready-after ∙ (let z : e + w - e ≡ w = omega arith in z)
+
+  -- what is asked of the two windows before they are summed
   pub ready-windows : Windows (cut used (a - w) a) (cut used e (e + w))
   ready-windows =
-      windows-right reading used a e w (d .is-whole) (d .some) (d .few) (omega (arith, d .order, d .inside)) (d .goes)
+      record {
+        some = omega (arith, length-before, d .fits .some);
+        few-before = omega (arith, length-before, d .fits .few);
+        few-after = omega (arith, length-after, d .fits .few);
+        low-before = low-before reading a e w (d .is-whole) used flowMost (d .fits .some) (omega (arith, d .order, d .inside)) (d .goes);
+        low-after = low-after reading a e w (d .is-whole) used flowMost (d .fits .some) (omega (arith, d .order, d .inside)) (d .goes);
+      }
 
-  -- the windows of the shortest gaps have 16 entries each
-  pub ready-16 : e - a ≤ 23
-      → (length (cut used (a - w) a) ≡ 16) × (length (cut used e (e + w)) ≡ 16)
-      × Low 30000 (cut used (a - w) a) × Low 30000 (cut used e (e + w))
-  ready-16 h =
-      let n : w ≡ 16 = d .is-width ∙ width-16 (e - a) h in
-      let b : w ≤ a = ready-before in
-      let f : e + w ≤ length used = ready-after in
-      let o : a < e = d .order in (
-        length-cut used (a - w) a (omega arith) (omega arith) ∙ (let z : a - (a - w) ≡ 16 = omega arith in z),
-        length-cut used e (e + w) (omega arith) f ∙ (let z : e + w - e ≡ 16 = omega arith in z),
-        ready-windows .low-before,
-        ready-windows .low-after,
-      )
+  -- and where their mean is taken
+  pub ready-mean : rule ≡ Mean
+      → (length (cut used (a - w) a) ≡ meanWidth) × (length (cut used e (e + w)) ≡ meanWidth)
+      × Low flowMost (cut used (a - w) a) × Low flowMost (cut used e (e + w))
+  ready-mean q =
+      (length-before ∙ d .fits .mean q, length-after ∙ d .fits .mean q, ready-windows .low-before, ready-windows .low-after)
 
-  -- the statistics are those of the values that the specification names
-  ready-values : tallyOf (cut used (a - w) a ++ cut used e (e + w)) ≡ tallyOf (windowValues used a e (widthOf (e - a)))
+  -- what is taken of the windows is the replacement, and is in range
+  pub ready-value : (r : ℕ) → r ≡ takenBy rule (tallyOf (cut used (a - w) a ++ cut used e (e + w)))
+      → (Value r ≡ pick (whole reading a e w) (Value (takenBy rule (tallyOf (windowValues used a e w)))) NotWhole) × (r ≤ flowMost)
   unfolding windowValues
-  ready-values = ap (λ (n : ℕ). tallyOf (cut used (a - n) a ++ cut used e (e + n))) (d .is-width)
+  ready-value r q = (
+    ap Value q
+        ∙ sym (ap (λ (b : Bool). pick b (Value (takenBy rule (tallyOf (cut used (a - w) a ++ cut used e (e + w))))) NotWhole) (d .is-whole)),
+    subst (λ (x : ℕ). x ≤ flowMost) (sym q)
+        (value-most reading used a e w flowMost rule (d .is-whole) (d .fits .some) (omega (arith, d .order, d .inside)) (d .goes)),
+  )
 
-  is-whole-width : whole reading a e (widthOf (e - a)) ≡ true
-  is-whole-width = ap (whole reading a e) (sym (d .is-width)) ∙ d .is-whole
+-- ---- what comes of an interval: a value in range, or one of two outcomes
 
-  ready-value : {r : ℕ} → r ≡ ruleOf (e - a) (tallyOf (cut used (a - w) a ++ cut used e (e + w))) → Value r ≡ replacementOf reading used a e
-  ready-value q =
-      ap Value (q ∙ ap (ruleOf (e - a)) ready-values) ∙ replaced-value reading used a e (d .short) is-whole-width
+pub record Bounded (b : ℕ) (r : Replaced) : Type 0 where
+  pub value : (v : ℕ) → r ≡ Replaced.by v → v ≤ b
+  pub outcome : (o : ℕ) → r ≡ Replaced.excluded o → (tooLong ≤ o) × (o ≤ notWhole)
 
-  pub ready-limit : (r : ℕ) (t : Tally) → t ≡ tallyOf (cut used (a - w) a ++ cut used e (e + w)) → r ≡ ruleOf (e - a) t
-      → (Value r ≡ replacementOf reading used a e) × (r ≤ 30000)
-  ready-limit r t p q =
-      let same = q ∙ ap (ruleOf (e - a)) p in (
-        ready-value same,
-        subst (λ (x : ℕ). x ≤ 30000) (sym (same ∙ ap (ruleOf (e - a)) ready-values))
-            (value-most reading used a e 30000 is-whole-width (omega (arith, d .order, d .inside)) (d .goes)),
-      )
+by-bounded : (b v : ℕ) → v ≤ b → Bounded b (Replaced.by v)
+by-bounded b v l =
+    record {
+      value = λ x q. let z : v ≡ x = cc in omega arith;
+      outcome = λ o q. let z : _≡_ {A = ℕ} 0 1 = cc in absurd (let n : ⊥ = omega arith in n);
+    }
 
-  pub ready-mean : {r : ℕ} → e - a ≤ 23 → r ≡ meanOf (tallyOf (cut used (a - w) a ++ cut used e (e + w))) → Value r ≡ replacementOf reading used a e
-  ready-mean h q = ready-value (q ∙ rule-mean (e - a) (tallyOf (cut used (a - w) a ++ cut used e (e + w))) h)
+excluded-bounded : (b k : ℕ) → tooLong ≤ k → k ≤ notWhole → Bounded b (Replaced.excluded k)
+excluded-bounded b k l m =
+    record {
+      value = λ v q. let z : _≡_ {A = ℕ} 0 1 = cc in absurd (let n : ⊥ = omega arith in n);
+      outcome = λ o q. let z : k ≡ o = cc in (omega arith, omega arith);
+    }
 
--- the same of an interval's replacement
-pub replacement-most : (reading corrected : List ℕ) (i b : ℕ) → i < length reading → Goes reading corrected b
-    → (v : ℕ) → replacementAt reading corrected i ≡ Value v → v ≤ b
+pub replacement-bounded : (reading corrected : List ℕ) (i b : ℕ) → i < length reading → Goes reading corrected b
+    → Bounded b (replacementAt reading corrected i)
 unfolding replacementAt replacementOf
-replacement-most reading corrected i b l g v e =
-    go (leb 673 (y - x)) (whole reading x y (widthOf (y - x))) refl (unfolded ∙ e)
+replacement-bounded reading corrected i b l g = go (classOf (y - x)) refl
   where
     x : ℕ
     x = gapStart reading i
@@ -254,13 +250,45 @@ replacement-most reading corrected i b l g v e =
     y : ℕ
     y = gapEnd reading i
 
-    go : (p q : Bool) → whole reading x y (widthOf (y - x)) ≡ q
-        → pick p TooLong (pick q (Value (ruleOf (y - x) (tallyOf (windowValues corrected x y (widthOf (y - x)))))) NotWhole) ≡ Value v → v ≤ b
-    go true q f z = let w : _≡_ {A = ℕ} 0 1 = cc in absurd (let n : ⊥ = omega arith in n)
-    go false true f z =
-        let same : ruleOf (y - x) (tallyOf (windowValues corrected x y (widthOf (y - x)))) ≡ v = cc in
-        subst (λ (m : ℕ). m ≤ b) same (value-most reading corrected x y b f (let n = start-least reading i in omega arith) g)
-    go false false f z = let w : _≡_ {A = ℕ} 0 1 = cc in absurd (let n : ⊥ = omega arith in n)
+    found : (w : ℕ) (rule : Rule) → 0 < w → (q : Bool) → whole reading x y w ≡ q
+        → Bounded b (pick q (Replaced.by (takenBy rule (tallyOf (windowValues corrected x y w)))) (Replaced.excluded notWhole))
+    found w rule s true f =
+        by-bounded b _ (value-most reading corrected x y w b rule f s (let n = start-least reading i in omega arith) g)
+    found w rule s false f = excluded-bounded b notWhole (omega arith) (omega arith)
 
-    unfolded : pick (leb 673 (y - x)) TooLong (pick (whole reading x y (widthOf (y - x))) (Value (ruleOf (y - x) (tallyOf (windowValues corrected x y (widthOf (y - x)))))) NotWhole) ≡ replacementOf reading corrected x y
-    unfolded = refl
+    go : (c : Class) → c ≡ classOf (y - x) → Bounded b (replacedIn reading corrected x y c)
+    go TooLong f = excluded-bounded b tooLong (omega arith) (omega arith)
+    go (Of w rule) f = found w rule (class-fits (y - x) w rule f .some) (whole reading x y w) refl
+
+-- ---- the cases of the code
+
+pub replaced-not : (b : Bool) (v : ℕ) → b ≡ false → NotWhole ≡ pick b (Value v) NotWhole
+replaced-not b v q = sym (ap (λ (t : Bool). pick t (Value v) NotWhole) q)
+
+module _ (reading corrected : List ℕ) (a e : ℕ) where
+  pub held-long : TooLong ≡ classOf (e - a) → excluding + tooLong ≡ heldFor (replacementOf reading corrected a e)
+  unfolding heldFor replacementOf
+  held-long q = ap (λ (c : Class). heldFor (replacedIn reading corrected a e c)) q
+
+  module _ (w : ℕ) (rule : Rule) (q : Of w rule ≡ classOf (e - a)) where
+    held-by : heldFor (replacedIn reading corrected a e (Of w rule)) ≡ heldFor (replacementOf reading corrected a e)
+    unfolding replacementOf
+    held-by = ap (λ (c : Class). heldFor (replacedIn reading corrected a e c)) q
+
+    pub held-not : NotWhole ≡ pick (whole reading a e w) (Value (takenBy rule (tallyOf (windowValues corrected a e w)))) NotWhole
+        → excluding + notWhole ≡ heldFor (replacementOf reading corrected a e)
+    unfolding heldFor
+    held-not r = go (whole reading a e w) (takenBy rule (tallyOf (windowValues corrected a e w))) r ∙ held-by
+      where
+        go : (b : Bool) (x : ℕ) → NotWhole ≡ pick b (Value x) NotWhole → excluding + notWhole ≡ heldFor (pick b (Replaced.by x) (Replaced.excluded notWhole))
+        go true x z = let y : _≡_ {A = ℕ} 0 1 = cc in absurd (let n : ⊥ = omega arith in n)
+        go false x z = refl
+
+    pub held-value : (v : ℕ) → Value v ≡ pick (whole reading a e w) (Value (takenBy rule (tallyOf (windowValues corrected a e w)))) NotWhole
+        → v ≡ heldFor (replacementOf reading corrected a e)
+    unfolding heldFor
+    held-value v r = go (whole reading a e w) (takenBy rule (tallyOf (windowValues corrected a e w))) r ∙ held-by
+      where
+        go : (b : Bool) (x : ℕ) → Value v ≡ pick b (Value x) NotWhole → v ≡ heldFor (pick b (Replaced.by x) (Replaced.excluded notWhole))
+        go true x z = cc
+        go false x z = let y : _≡_ {A = ℕ} 0 1 = cc in absurd (let n : ⊥ = omega arith in n)

@@ -1,71 +1,70 @@
--- What replaces the missing readings of a gap (document 01, "Gaps"): flow and CH4 alike, each from its own series.
--- `reading` is the series as recorded, which tells what is missing; `corrected` has its drift taken out.
+-- What comes of a gap (section 7 of docs/RULES.md): flow and CH4 alike, each from its own series. `reading` is the series as
+-- recorded, which tells what is missing; `corrected` has its drift taken out (rules 6.8 and 7.4).
 -- Assumes nothing.
-use Prim.Native.Nat.{ℕ, _+_, _-_, _≤_, _<_}
+use Prim.Native.Nat.{ℕ, _+_, _-_}
 use mathlib.Core.Path.{_≡_, refl}
-use mathlib.Core.Bool.{Bool, true, false}
 use mathlib.Core.List.{List, [], _∷_, _++_}
 use lib.Dec.{leb}
-use lib.ListN.{length, getD}
 use Rattle.rows.specs.Rows.{pick, cut}
-use Rattle.protocol.specs.Ranges.{mark}
-use Rattle.drainage_window.specs.Window.{tallyOf, meanOf, limitOf, z90, z95}
+use Rattle.drainage_window.specs.Window.{tallyOf, meanOf, limitOf, meanWidth, width90, width95, z90, z95}
 use Rattle.drainage_window.specs.declared.Tally.{Tally}
-use Rattle.drainage_runs.specs.Runs.{missingAt, gapStart, gapEnd, whole, excluding}
-use Rattle.drainage_gaps.specs.declared.Replacement.{Replacement}
-use Rattle.drainage_gaps.specs.declared.Replacement.the-variants.{Value, TooLong, NotWhole}
+use Rattle.drainage_runs.specs.Runs.{gapStart, gapEnd, whole, tooLong, notWhole}
+use Rattle.drainage_gaps.specs.declared.Rule.{Rule}
+use Rattle.drainage_gaps.specs.declared.Rule.the-variants.{Mean, Limit}
+use Rattle.drainage_gaps.specs.declared.Class.{Class}
+use Rattle.drainage_gaps.specs.declared.Class.the-variants.{Of, TooLong}
 
--- The table: "1..23 | 16 | mean of the 32", "24..95 | 96 | lower 90 % limit of the 192", "96..672 | 288 | lower 95 % limit
--- of the 576", "673 or more | none". Its lines, by the intervals of a gap:
-abbrev pub upTo23 : ℕ → Bool
-upTo23 gap = leb gap 23
+-- Rule 7.5, the table: a line says how long a gap may be, in intervals, how many intervals each window has, and what of the
+-- windows' values replaces the gap's entries. `Limit z` is the lower limit for z2 in hundredths.
+pub record Line : Type 0 where
+  pub longest : ℕ
+  pub width : ℕ
+  pub rule : Rule
 
-abbrev pub upTo95 : ℕ → Bool
-upTo95 gap = leb gap 95
+abbrev pub table : List Line
+table =
+    record { longest = 23; width = meanWidth; rule = Mean }
+    ∷ record { longest = 95; width = width90; rule = Limit z90 }
+    ∷ record { longest = 672; width = width95; rule = Limit z95 }
+    ∷ []
 
-abbrev pub from673 : ℕ → Bool
-from673 gap = leb 673 gap
+-- a gap goes by the first line that reaches its length, and is too long if none does
+abbrev pub firstLine : List Line → ℕ → Class
+firstLine [] gap = TooLong
+firstLine (l ∷ ls) gap = pick (leb gap (l .longest)) (Of (l .width) (l .rule)) (firstLine ls gap)
 
--- the window,
-unfoldable pub widthOf : ℕ → ℕ
-widthOf gap = pick (upTo23 gap) 16 (pick (upTo95 gap) 96 288)
+unfoldable pub classOf : ℕ → Class
+classOf gap = firstLine table gap
 
--- and the replacement, from the statistics of its two windows
-unfoldable pub ruleOf : ℕ → Tally → ℕ
-ruleOf gap t = pick (upTo23 gap) (meanOf t) (pick (upTo95 gap) (limitOf t z90) (limitOf t z95))
+-- what a rule takes of the windows' values (rules 7.6 and 7.7)
+abbrev pub takenBy : Rule → Tally → ℕ
+takenBy Mean t = meanOf t
+takenBy (Limit z) t = limitOf t z
 
--- the corrected values of "the w intervals directly before and the w directly after" the gap from a up to e
+-- the corrected values of the two windows of the gap from a up to, and without, e: w entries before it and w after it
 unfoldable pub windowValues : List ℕ → ℕ → ℕ → ℕ → List ℕ
 windowValues corrected a e w = cut corrected (a - w) a ++ cut corrected e (e + w)
 
--- the replacement for the gap from a up to e, or why there is none
-unfoldable pub replacementOf : List ℕ → List ℕ → ℕ → ℕ → Replacement
-replacementOf reading corrected a e =
-    pick (from673 (e - a)) TooLong
-    (pick (whole reading a e (widthOf (e - a)))
-    (Value (ruleOf (e - a) (tallyOf (windowValues corrected a e (widthOf (e - a))))))
-    NotWhole)
+-- Rule 8.3: a replacement is found, or the outcome is given that excludes the interval
+pub data Replaced : Type 0 where
+  by : ℕ → Replaced
+  excluded : ℕ → Replaced
 
--- the replacement for interval i, whose reading is missing: that of its gap
-unfoldable pub replacementAt : List ℕ → List ℕ → ℕ → Replacement
+-- what comes of the gap from a up to e, by its class: nothing stands in for a window that is not whole
+abbrev pub replacedIn : List ℕ → List ℕ → ℕ → ℕ → Class → Replaced
+replacedIn reading corrected a e TooLong = excluded tooLong
+replacedIn reading corrected a e (Of w rule) =
+    pick (whole reading a e w) (by (takenBy rule (tallyOf (windowValues corrected a e w)))) (excluded notWhole)
+
+unfoldable pub replacementOf : List ℕ → List ℕ → ℕ → ℕ → Replaced
+replacementOf reading corrected a e = replacedIn reading corrected a e (classOf (e - a))
+
+-- what comes of interval i, whose reading is missing: that of its gap
+unfoldable pub replacementAt : List ℕ → List ℕ → ℕ → Replaced
 replacementAt reading corrected i = replacementOf reading corrected (gapStart reading i) (gapEnd reading i)
 
--- what a gap's entries hold until outcomes are given: the replacement, or which outcome excludes the interval, "8 that gap
--- has 673 or more; 9 its window isn't whole"
-unfoldable pub heldFor : Replacement → ℕ
-heldFor (Value v) = v
-heldFor TooLong = excluding + 8
-heldFor NotWhole = excluding + 9
-
-unfoldable pub filledAt : List ℕ → List ℕ → ℕ → ℕ
-filledAt reading corrected i = pick (missingAt reading i) (heldFor (replacementAt reading corrected i)) (getD corrected i mark)
-
--- the corrected row goes with the readings, and its measured values are at most b
-pub record Goes (reading corrected : List ℕ) (b : ℕ) : Type 0 where
-  pub same-length : length corrected ≡ length reading
-  pub most : (k : ℕ) → missingAt reading k ≡ false → getD corrected k mark ≤ b
-
 -- both sides of each border of the table
-widths : (widthOf 1 ≡ 16) × (widthOf 23 ≡ 16) × (widthOf 24 ≡ 96) × (widthOf 95 ≡ 96) × (widthOf 96 ≡ 288) × (widthOf 672 ≡ 288)
-unfolding widthOf
-widths = (refl, refl, refl, refl, refl, refl)
+borders : (classOf 23 ≡ Of 16 Mean) × (classOf 24 ≡ Of 96 (Limit 271)) × (classOf 95 ≡ Of 96 (Limit 271))
+    × (classOf 96 ≡ Of 288 (Limit 385)) × (classOf 672 ≡ Of 288 (Limit 385)) × (classOf 673 ≡ TooLong)
+unfolding classOf
+borders = (refl, refl, refl, refl, refl, refl)

@@ -1,90 +1,100 @@
 // The replacement of every gap of one series, each gap found and worked out once.
-ghost use Prim.Native.Nat.{ℕ, _+_, _-_, _*_, _/_, _≤_, _<_};
+ghost use Prim.Native.Nat.{ℕ, _+_, _-_, _≤_, _<_};
 ghost use mathlib.Core.Path.{_≡_};
 ghost use mathlib.Core.Bool.{true};
 ghost use lib.ListN.{length};
-ghost use Rattle.rows.specs.Rows.{build, every, Continued};
-ghost use Rattle.protocol.specs.Ranges.{flowMost};
-ghost use Rattle.drainage_window.specs.Window.{Sized};
-ghost use Rattle.drainage_runs.specs.Runs.{measuredAt};
-ghost use Rattle.drainage_gaps.specs.Gaps.{widthOf, ruleOf, replacementOf, heldFor, filledAt, Goes};
-use drainage_window::Tally;
+ghost use Rattle.rows.specs.Rows.{pick, build, every, Continued};
+ghost use Rattle.protocol.specs.Ranges.{intervalsMost, flowMost};
+ghost use Rattle.drainage_window.specs.Window.{tallyOf};
+ghost use Rattle.drainage_runs.specs.Runs.{measuredAt, whole};
+ghost use Rattle.drainage_gaps.specs.Gaps.{classOf, takenBy, windowValues, replacementOf};
+ghost use Rattle.drainage_gaps.specs.Private.{heldFor, filledAt, Goes};
+use drainage_runs::BLOCK;
+use drainage_runs::EXCLUDING;
+use drainage_runs::NOT_WHOLE;
+use drainage_runs::TOO_LONG;
+use drainage_window::MEAN_WIDTH;
+use drainage_window::WIDTH_90;
+use drainage_window::WIDTH_95;
+use drainage_window::Z90;
+use drainage_window::Z95;
 use protocol::MISSING;
 
-// A replacement is found, or the interval is excluded: the gap has 673 intervals or more, or a window isn't whole.
+// The longest gap that is replaced by the mean, by the 90 % limit, and at all.
+const MEAN_LONGEST: usize = 23;
+
+const LONGEST_90: usize = 95;
+
+const LONGEST_95: usize = 672;
+
+// What is taken of the windows' values: the mean, or the lower limit for z2 in hundredths.
+pub enum Rule {
+    Mean,
+    Limit(u64),
+}
+
+// The entries of each window and the rule; or there is no replacement for so long a gap.
+pub enum Class {
+    Of(usize, Rule),
+    TooLong,
+}
+
 pub enum Replacement {
     Value(u16),
-    TooLong,
     NotWhole,
 }
 
-// The intervals in each window of a gap. Ruled out: a border of the table off by one; the last class for every gap.
-fn width(gap: usize) -> usize
-    ensures { λ r. ⌜ (r ≡ widthOf gap) × (r ≤ 288) × (0 < r) × (16 * (r / 16) ≡ r) ⌝ }
+// The table of gaps. Ruled out: a border off by one; the last class for every gap.
+fn class_of(gap: usize) -> Class
+    ensures { λ r. ⌜ r ≡ classOf gap ⌝ }
 {
-    if gap <= 23 {
-        return 16;
+    if gap <= MEAN_LONGEST {
+        return Class::Of(MEAN_WIDTH, Rule::Mean);
     }
-    if gap <= 95 {
-        return 96;
+    if gap <= LONGEST_90 {
+        return Class::Of(WIDTH_90, Rule::Limit(Z90));
     }
-    288
+    if gap <= LONGEST_95 {
+        return Class::Of(WIDTH_95, Rule::Limit(Z95));
+    }
+    Class::TooLong
 }
 
-// The lower limit, by the gap's length. Ruled out: the 95 % limit for every gap; the 90 % limit for the longest.
-fn limit(missing: usize, t: Tally) -> u64
-    requires { ⌜ Sized t × (23 < missing) ⌝ }
-    ensures { λ r. ⌜ r ≡ ruleOf missing t ⌝ }
+// The replacement for the gap from a up to e, by its class. Ruled out: the nearest measured value where a window isn't whole;
+// a window that runs past the row.
+fn replace(reading: &[u16], used: &[u16], a: usize, e: usize, w: usize, rule: Rule) -> Replacement
+    requires { ⌜ (a < e) × (e ≤ length (now reading)) × (length (now reading) ≤ intervalsMost) × Goes (now reading) (now used) flowMost
+        × (Class.Of w rule ≡ classOf (e - a)) ⌝ }
+    ensures { λ r. ⌜ r ≡ pick (whole (now (reading .entry)) a e w)
+        (Replacement.Value (takenBy rule (tallyOf (windowValues (now (used .entry)) a e w)))) Replacement.NotWhole ⌝ }
 {
-    if missing <= 95 {
-        return drainage_window::limit(t, 271);
-    }
-    drainage_window::limit(t, 385)
-}
-
-// The replacement for the gap from a up to e. Ruled out: the nearest measured value where a window isn't whole; a window
-// that runs past the row.
-pub fn replace_gap(reading: &[u16], used: &[u16], a: usize, e: usize) -> Replacement
-    requires { ⌜ (a < e) × (e ≤ length (now reading)) × (length (now reading) ≤ 35136) × Goes (now reading) (now used) flowMost ⌝ }
-    ensures { λ r. ⌜ r ≡ replacementOf (now (reading .entry)) (now (used .entry)) a e ⌝ }
-{
-    let missing = e - a;
-    if 673 <= missing {
-        return Replacement::TooLong;
-    }
-    let w = width(missing);
-    if !drainage_runs::windows_whole(reading, a, e, w / 16) {
+    if !drainage_runs::windows_whole(reading, a, e, w) {
         return Replacement::NotWhole;
     }
     let first = a - w;
     let last = e + w;
-    if missing <= 23 {
+    let Rule::Limit(z) = rule else {
         return Replacement::Value(
             drainage_window::mean_of_32(&used[first..a], &used[e..last]) as u16,
         );
-    }
+    };
     let t = drainage_window::tally_of(&used[first..a], &used[e..last]);
-    Replacement::Value(limit(missing, t) as u16)
+    Replacement::Value(drainage_window::limit(t, z) as u16)
 }
 
-// What a gap's entries hold until outcomes are given: a value goes on, otherwise the exclusion's outcome is given.
-fn held(answer: Replacement) -> u16
-    ensures { λ r. ⌜ r ≡ heldFor answer ⌝ }
+// What the entries of the gap from a up to e hold until outcomes are given: a value goes on, otherwise the outcome that
+// excludes them. Ruled out: a value for a gap of 673 intervals; outcome 8 where a window is not whole.
+fn held(reading: &[u16], used: &[u16], a: usize, e: usize) -> u16
+    requires { ⌜ (a < e) × (e ≤ length (now reading)) × (length (now reading) ≤ intervalsMost) × Goes (now reading) (now used) flowMost ⌝ }
+    ensures { λ r. ⌜ r ≡ heldFor (replacementOf (now (reading .entry)) (now (used .entry)) a e) ⌝ }
 {
-    let Replacement::Value(v) = answer else {
-        return exclusion(answer);
+    let Class::Of(w, rule) = class_of(e - a) else {
+        return EXCLUDING + TOO_LONG;
+    };
+    let Replacement::Value(v) = replace(reading, used, a, e, w, rule) else {
+        return EXCLUDING + NOT_WHOLE;
     };
     v
-}
-
-fn exclusion(answer: Replacement) -> u16
-    ensures { λ r. ⌜ r ≡ heldFor answer ⌝ }
-{
-    match answer {
-        Replacement::TooLong => 65508,
-        Replacement::NotWhole => 65509,
-        Replacement::Value(v) => v,
-    }
 }
 
 // The same value at every interval from a up to e.
@@ -99,15 +109,15 @@ fn spread(used: &mut [u16], a: usize, e: usize, v: u16)
     }
 }
 
-// Where the search for a gap goes on after the measured entry i: 16 entries further if none of them is missing.
+// Where the search for a gap goes on after the measured entry i: a block further if none of its entries is missing.
 // Ruled out: a missing entry passed over; no step at all.
 fn next(reading: &[u16], i: usize) -> usize
-    requires { ⌜ (i < length (now reading)) × (length (now reading) ≤ 35136) × (measuredAt (now reading) i ≡ true) ⌝ }
+    requires { ⌜ (i < length (now reading)) × (length (now reading) ≤ intervalsMost) × (measuredAt (now reading) i ≡ true) ⌝ }
     ensures { λ r. ⌜ (i < r) × (r ≤ length (now (reading .entry))) × (every (r - i) (λ k. measuredAt (now (reading .entry)) (i + k)) ≡ true) ⌝ }
 {
-    if i + 16 <= reading.len() {
+    if i + BLOCK <= reading.len() {
         if drainage_runs::measured(reading, i) {
-            return i + 16;
+            return i + BLOCK;
         }
     }
     i + 1
@@ -116,7 +126,7 @@ fn next(reading: &[u16], i: usize) -> usize
 // Every gap's entries get what its replacement holds. Ruled out: a replaced entry used in a later gap's window; a gap
 // worked out from the readings before drift was corrected.
 pub fn fill_gaps(reading: &[u16], used: &mut [u16])
-    requires { ⌜ (length (now reading) ≤ 35136) × Goes (now reading) (now used) flowMost ⌝ }
+    requires { ⌜ (length (now reading) ≤ intervalsMost) × Goes (now reading) (now used) flowMost ⌝ }
     ensures { λ r. ⌜ now (used .exit) ≡ build (length (now (reading .entry))) (filledAt (now (reading .entry)) (now (used .entry))) ⌝ }
 {
     let n = reading.len();
@@ -124,8 +134,8 @@ pub fn fill_gaps(reading: &[u16], used: &mut [u16])
     while i < n {
         if reading[i] == MISSING {
             let e = drainage_runs::gap_end(reading, i);
-            let answer = replace_gap(reading, used, i, e);
-            spread(used, i, e, held(answer));
+            let v = held(reading, used, i, e);
+            spread(used, i, e, v);
             i = e;
         } else {
             i = next(reading, i);

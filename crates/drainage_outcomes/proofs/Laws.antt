@@ -1,6 +1,6 @@
 -- Laws of outcomes: which there are, what a counted interval's values are, and what a device's sums are.
 -- Assumes nothing.
-use Prim.Native.Nat.{ℕ, _-_, _*_, _≤_, _<_}
+use Prim.Native.Nat.{ℕ, _+_, _-_, _*_, _≤_, _<_}
 use mathlib.Core.Path.{_≡_, refl, sym, ap, _∙_, subst}
 use mathlib.Core.Bool.{Bool, true, false, not}
 use mathlib.Core.List.{List}
@@ -16,7 +16,8 @@ use Rattle.rows.proofs.Sums.{sumTo-bound, sumTo-ext, counts-add}
 use Rattle.protocol.specs.Ranges.{mark, tempMissing, pressMissing, tempRight, pressRight, between, kelvinOf, flowMost, contentMost}
 use Rattle.volume.specs.Volume.{methaneLitres, Inside, litresMost}
 use Rattle.volume.proofs.Laws.{methane-litres-most, no-flow}
-use Rattle.drainage_runs.specs.Runs.{excluding}
+use Rattle.drainage_runs.specs.Runs.{tooLong, notWhole}
+use Rattle.drainage_runs.specs.Private.{excluding}
 use Rattle.drainage_outcomes.specs.declared.Sums.{Sums}
 use Rattle.drainage_outcomes.specs.Outcomes.{outcomes, outcomeOf, allMeasured, counted, litresFor, heldOutcome, entryOf, entryAt, sumsOf, Held, Holds, Ready, ReadyAt, Finished}
 
@@ -58,13 +59,13 @@ counts false false false false true false a b h = record { has = refl; flow-foun
 counts false false false false false r a b h = record { has = refl; flow-found = λ e. clash e refl; content-found = λ e. clash e refl }
 
 -- nothing is missing: outcome 0, whatever else there is
-whole : (s u l f c r : Bool) (a b : ℕ) → not (either s (either u (either l (either f c)))) ≡ true → 0 ≡ ordered s u l f c r a b
-whole true u l f c r a b e = clash e refl
-whole false true l f c r a b e = clash e refl
-whole false false true f c r a b e = clash e refl
-whole false false false true c r a b e = clash e refl
-whole false false false false true r a b e = clash e refl
-whole false false false false false r a b e = refl
+all-there : (s u l f c r : Bool) (a b : ℕ) → not (either s (either u (either l (either f c)))) ≡ true → 0 ≡ ordered s u l f c r a b
+all-there true u l f c r a b e = clash e refl
+all-there false true l f c r a b e = clash e refl
+all-there false false true f c r a b e = clash e refl
+all-there false false false true c r a b e = clash e refl
+all-there false false false false true r a b e = clash e refl
+all-there false false false false false r a b e = refl
 
 few : (s u l f c r : Bool) (a b : ℕ) → a < 10 → b < 10 → ordered s u l f c r a b < 10
 few true u l f c r a b h k = omega arith
@@ -83,7 +84,7 @@ held-few : (reading held b r : ℕ) → Holds reading held b → r < 10 → held
 held-few reading held b r x h = go (ltb excluding held)
   where
     go : (t : Bool) → pick t (held - excluding) r < 10
-    go true = let z : held ≤ 65509 = x .few in omega arith
+    go true = let z : held ≤ excluding + notWhole = x .few in omega arith
     go false = h
 
 -- where the reading was measured, or its replacement found, the value is in range
@@ -92,8 +93,8 @@ held-right reading held b r x h = go (eqb reading mark) refl
   where
     found : (t : Bool) → ltb excluding held ≡ t → pick t (held - excluding) r < 3 → held ≤ b
     found true e l =
-        let z : 65500 < held = ltb-true 65500 held e in
-        let y : 65508 ≤ held = x .some z in
+        let z : excluding < held = ltb-true excluding held e in
+        let y : excluding + tooLong ≤ held = x .some z in
         absurd (let w : ⊥ = omega arith in w)
     found false e l = x .value (ltb-false excluding held e)
 
@@ -137,7 +138,7 @@ pub measured-outcome : (flow content : ℕ) (temp : ℤ) (press status flowHeld 
     → 0 ≡ outcomeFor flow content temp press status flowHeld contentHeld
 unfolding outcomeOf allMeasured
 measured-outcome flow content temp press status flowHeld contentHeld e =
-    whole (eqb status 0) (eqb status 3) (either (tempMissing temp) (pressMissing press)) (eqb flow mark) (eqb content mark) (eqb status 1) (heldOutcome 1 flowHeld) (heldOutcome 2 contentHeld) e
+    all-there (eqb status 0) (eqb status 3) (either (tempMissing temp) (pressMissing press)) (eqb flow mark) (eqb content mark) (eqb status 1) (heldOutcome 1 flowHeld) (heldOutcome 2 contentHeld) e
 
 module _ (flow content : ℕ) (temp : ℤ) (press status flowHeld contentHeld : ℕ) (x : Ready flow content temp press flowHeld contentHeld) where
   -- the values of a counted interval are in range, so that its litres fit

@@ -11,7 +11,8 @@ use Rattle.rows.specs.Rows.{pick, both, either, build, sumTo, countOf}
 use Rattle.protocol.specs.Ranges.{intervalsMost, mark, tempMissing, pressMissing, tempRight, pressRight, flowMost, contentMost}
 use Rattle.columns.specs.Series.{Series, Long}
 use Rattle.volume.specs.Volume.{methaneLitres}
-use Rattle.drainage_runs.specs.Runs.{excluding}
+use Rattle.drainage_runs.specs.Runs.{tooLong, notWhole}
+use Rattle.drainage_runs.specs.Private.{excluding}
 use Rattle.drainage_outcomes.specs.declared.Entry.{Entry}
 use Rattle.drainage_outcomes.specs.declared.Sums.{Sums}
 
@@ -19,9 +20,8 @@ use Rattle.drainage_outcomes.specs.declared.Sums.{Sums}
 abbrev pub outcomes : ℕ
 outcomes = 10
 
--- "3 stopped; 4 status code 3; 5 temperature or pressure missing; 6 flow and CH4 both missing; 7 one missing and status 1;
--- 8 that gap has 673 or more; 9 its window isn't whole; then counted as 1 flow replaced, 2 CH4 replaced, 0 both measured".
--- `byFlow` is what a missing flow comes to, 1, 8 or 9, and `byContent` what a missing CH4 content does, 2, 8 or 9.
+-- Rule 8.1: the first line that applies, from top to bottom. `lacking` is that temperature or pressure is missing. `byFlow` is what a
+-- missing flow comes to: 1 where it is replaced, or tooLong or notWhole; `byContent` what a missing CH4 content does, 2 or these.
 unfoldable pub outcomeOf : ℕ → Bool → Bool → Bool → ℕ → ℕ → ℕ
 outcomeOf status lacking noFlow noContent byFlow byContent =
     pick (eqb status 0) 3
@@ -81,12 +81,12 @@ unfoldable pub sumsOf : ℕ → (ℕ → Entry) → Sums
 sumsOf n entry =
     record { counts = build outcomes (countOf n (λ i. entry i .outcome)); methane = sumTo n (λ i. entry i .litres) }
 
--- what is held for a reading: a value up to b, or the outcome 8 or 9 where the reading is missing
+-- what is held for a reading: a value up to b, or one of the two outcomes that exclude a missing reading
 pub record Holds (reading held b : ℕ) : Type 0 where
   pub value : held ≤ excluding → held ≤ b
-  pub few : held ≤ excluding + 9
+  pub few : held ≤ excluding + notWhole
   pub measured : eqb reading mark ≡ false → held ≤ b
-  pub some : excluding < held → excluding + 8 ≤ held
+  pub some : excluding < held → excluding + tooLong ≤ held
 
 -- what an interval's entry is worked out from
 pub record Ready (flow content : ℕ) (temp : ℤ) (press flowHeld contentHeld : ℕ) : Type 0 where
@@ -143,9 +143,9 @@ unfolding outcomeOf
 measured = refl
 
 -- a running device with everything measured; no record of status; no pressure
-whole : allMeasured 1000 5000 (pos 2000) 101325 1 ≡ true
+all-there : allMeasured 1000 5000 (pos 2000) 101325 1 ≡ true
 unfolding allMeasured
-whole = refl
+all-there = refl
 
 no-status : allMeasured 1000 5000 (pos 2000) 101325 3 ≡ false
 unfolding allMeasured

@@ -18,6 +18,7 @@ ghost use Rattle.drainage_outcomes.specs.Outcomes.{
   ReadyAt,
   Finished,
 };
+use drainage_runs::EXCLUDING;
 use protocol::MISSING;
 
 pub struct Entry {
@@ -78,8 +79,8 @@ fn replaced(status: u8, both_missing: bool, by: u8) -> u8
 fn held_outcome(counted: u8, held: u16) -> u8
     ensures { λ r. ⌜ r ≡ heldOutcome counted held ⌝ }
 {
-    if 65500 < held {
-        (held - 65500) as u8
+    if EXCLUDING < held {
+        (held - EXCLUDING) as u8
     } else {
         counted
     }

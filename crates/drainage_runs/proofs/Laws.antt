@@ -1,21 +1,22 @@
 -- Laws of gaps: how a run starts, goes on and ends; the one gap around a missing interval; what a whole window says.
 -- Assumes nothing.
 use Prim.Native.Nat.{ℕ, zero, suc, _+_, _-_, _≤_, _<_}
-use mathlib.Core.Path.{_≡_, refl, sym, ap, _∙_, subst}
+use mathlib.Core.Path.{_≡_, refl, sym, ap, ap₂, _∙_, subst}
 use mathlib.Core.Bool.{Bool, true, false, not}
 use mathlib.Core.Logic.{⊎-elim}
 use mathlib.Core.List.{List, [], _∷_}
-use native.Mathlib.Nat.{add-zero, add-suc, le-refl, le-step, le-antisymm, not-suc-le-zero, le-of-suc-le-suc, le-add-right, eq-or-lt-of-le, le-dest, lt-of-not-le}
+use native.Mathlib.Nat.{add-zero, add-suc, le-refl, le-step, le-antisymm, not-suc-le-zero, le-of-suc-le-suc, le-add-right, eq-or-lt-of-le, le-dest}
+use native.Mathlib.Nat.{lt-of-not-le}
 use native.Mathlib.Decide.{decLe}
 use native.Mathlib.Omega.{arith}
 use lib.Dec.{ltb, eqb}
-use borrow.Author.Tests.{ltb-true, eq-eqb, ne-eqb}
+use borrow.Author.Tests.{ltb-true, lt-ltb, eq-eqb, ne-eqb}
 use lib.ListN.{length, getD, drop, length-drop, drop-of-length-le, List·getD-eq-default}
 use lib.Seq.{drop-cons, getD-drop}
-use Rattle.rows.specs.Rows.{pick, every}
-use Rattle.rows.proofs.Laws.{every-at, both-true, getD-inside}
+use Rattle.rows.specs.Rows.{pick, both, every}
+use Rattle.rows.proofs.Laws.{every-at, every-all, both-true, getD-inside}
 use Rattle.protocol.specs.Ranges.{missing, mark}
-use Rattle.drainage_runs.specs.Runs.{missingAt, measuredAt, gapStart, gapEnd, run, usable, whole, IsGap}
+use Rattle.drainage_runs.specs.Runs.{missingAt, measuredAt, gapStart, gapEnd, run, usable, whole, IsGap, WindowsWhole}
 
 clash : {X : Type 0} {b : Bool} → b ≡ true → b ≡ false → X
 clash p q = let z : _≡_ {A = ℕ} 0 1 = cc in absurd (let w : ⊥ = omega arith in w)
@@ -93,7 +94,8 @@ unfolding run
 run-end [] h = absurd (not-suc-le-zero h)
 run-end (v ∷ vs) h = go (run-end vs) (missing v) refl h
   where
-    go : (run vs < length vs → missing (getD vs (run vs) mark) ≡ false) → (b : Bool) → missing v ≡ b → pick b (suc (run vs)) 0 < suc (length vs) → missing (getD (v ∷ vs) (pick b (suc (run vs)) 0) mark) ≡ false
+    go : (run vs < length vs → missing (getD vs (run vs) mark) ≡ false) → (b : Bool) → missing v ≡ b
+        → pick b (suc (run vs)) 0 < suc (length vs) → missing (getD (v ∷ vs) (pick b (suc (run vs)) 0) mark) ≡ false
     go ih true e l = ih (omega arith)
     go ih false e l = e
 
@@ -167,23 +169,25 @@ unfolding gapStart
 start-first row zero h = absurd (not-suc-le-zero h)
 start-first row (suc i) h = go (start-first row i) (missingAt row i) refl h
   where
-    go : (0 < gapStart row i → missingAt row (gapStart row i - 1) ≡ false) → (b : Bool) → missingAt row i ≡ b → 0 < pick b (gapStart row i) (suc i) → missingAt row (pick b (gapStart row i) (suc i) - 1) ≡ false
+    go : (0 < gapStart row i → missingAt row (gapStart row i - 1) ≡ false) → (b : Bool) → missingAt row i ≡ b
+        → 0 < pick b (gapStart row i) (suc i) → missingAt row (pick b (gapStart row i) (suc i) - 1) ≡ false
     go ih true e z = ih z
     go ih false e z = subst (λ (x : ℕ). missingAt row x ≡ false) (let w : i ≡ suc i - 1 = omega arith in w) e
 
--- gapStart and gapEnd give a gap, and interval i lies in it
+-- interval i lies from gapStart up to gapEnd, and these give a gap
+pub around : (row : List ℕ) (i : ℕ) → i < length row → missingAt row i ≡ true → (gapStart row i ≤ i) × (i < gapEnd row i)
+around row i h e =
+    (start-least row i, subst (λ (x : ℕ). i < x) (sym (end-on row i h e)) (end-least row (suc i)))
+
 pub gap-is : (row : List ℕ) (i : ℕ) → i < length row → missingAt row i ≡ true → IsGap row (gapStart row i) (gapEnd row i)
 gap-is row i h e =
     record {
+      some = let z = around row i h e in omega arith;
       inside = end-most row i (omega arith);
       all-missing = λ k l m. elim (decLe i k) [ yes z ↦ of-gap row i k (omega arith) z m .is-missing | no z ↦ start-all row i k l (lt-of-not-le z) ];
       first = λ z. ap not (start-first row i z);
       last = λ z. ap not (end-measured row i (omega arith) z);
     }
-
-pub around : (row : List ℕ) (i : ℕ) → i < length row → missingAt row i ≡ true → (gapStart row i ≤ i) × (i < gapEnd row i)
-around row i h e =
-    (start-least row i, subst (λ (x : ℕ). i < x) (sym (end-on row i h e)) (end-least row (suc i)))
 
 not-both : {b : Bool} → b ≡ true → not b ≡ true → ⊥
 not-both p q = let z : _≡_ {A = ℕ} 0 1 = cc in omega arith
@@ -199,14 +203,18 @@ gap-unique row i a e b f x y h l m o = (
     left a e b f x y h l m o =
         elim (decLe a b) [
           | yes z ↦ z
-          | no z ↦ absurd (not-both (y .all-missing (a - 1) (omega (arith, lt-of-not-le z)) (omega (arith, lt-of-not-le z))) (x .first (omega (arith, lt-of-not-le z))))
+          | no z ↦
+              let b-first : b < a = lt-of-not-le z in
+              absurd (not-both (y .all-missing (a - 1) (omega arith) (omega arith)) (x .first (omega arith)))
         ]
 
     right : (a e b f : ℕ) → IsGap row a e → IsGap row b f → a ≤ i → i < e → b ≤ i → i < f → e ≤ f
     right a e b f x y h l m o =
         elim (decLe e f) [
           | yes z ↦ z
-          | no z ↦ absurd (not-both (x .all-missing f (omega arith) (lt-of-not-le z)) (y .last (let w : e ≤ length row = x .inside in omega (arith, lt-of-not-le z))))
+          | no z ↦
+              let f-first : f < e = lt-of-not-le z in
+              absurd (not-both (x .all-missing f (omega arith) f-first) (y .last (omega (arith, x .inside))))
         ]
 
 -- ---- what a whole window says
@@ -238,3 +246,20 @@ unfolding usable
 whole-after row a e w h k l =
     let m : missingAt row (e + k) ≡ false = not-back _ (every-usable row a e w 1 k h (omega arith) l) in
     (measured-inside row (e + k) m, m)
+
+-- the test and rule 7.2 say the same
+pub whole-is : (row : List ℕ) (a e w : ℕ) → whole row a e w ≡ true → WindowsWhole row a e w
+whole-is row a e w h =
+    record {
+      before = λ k l. let z = whole-before row a e w h k l in (z .0, ap not (z .1));
+      after = λ k l. let z = whole-after row a e w h k l in (z .0, ap not (z .1));
+    }
+
+pub is-whole : (row : List ℕ) (a e w : ℕ) → WindowsWhole row a e w → whole row a e w ≡ true
+unfolding whole usable
+is-whole row a e w x = every-all 2 (λ side. every w (usable row a e side)) (λ side h. every-all w (usable row a e side) (each side))
+  where
+    each : (side k : ℕ) → k < w → usable row a e side k ≡ true
+    each zero k l =
+        ap₂ both (lt-ltb k a (x .before k l .0)) (x .before k l .1)
+    each (suc side) k l = x .after k l .1

@@ -1,18 +1,17 @@
--- The look over a gap's two windows, block by block, as a loop's invariant: start, step and both ends.
+-- The look over a gap's two windows, entry by entry, as a loop's invariant: start, step and both ends.
 -- Assumes nothing.
-use Prim.Native.Nat.{ℕ, zero, suc, _+_, _-_, _*_, _≤_, _<_}
+use Prim.Native.Nat.{ℕ, zero, suc, _+_, _-_, _≤_, _<_}
 use mathlib.Core.Path.{_≡_, refl, sym, ap, _∙_, subst}
 use mathlib.Core.Bool.{Bool, true, false, not}
 use mathlib.Core.List.{List}
-use native.Mathlib.Nat.{not-suc-le-zero, lt-of-not-le}
+use native.Mathlib.Nat.{not-suc-le-zero}
 use native.Mathlib.Numerals.{add-one}
-use native.Mathlib.Decide.{decLe}
 use native.Mathlib.Omega.{arith}
 use borrow.Author.Count.{below-more}
 use borrow.Author.Tests.{lt-ltb}
 use lib.ListN.{length}
 use Rattle.rows.specs.Rows.{both, every}
-use Rattle.rows.proofs.Laws.{every-at, every-all, every-fails}
+use Rattle.rows.proofs.Laws.{every-all, every-fails}
 use Rattle.drainage_runs.specs.Runs.{measuredAt, usable, whole}
 use Rattle.drainage_runs.proofs.Laws.{whole-before, whole-after}
 
@@ -43,18 +42,10 @@ pub record Measured (row : List ℕ) (from n : ℕ) : Type 0 where
 pub measured-none : (row : List ℕ) (from : ℕ) → Measured row from 0
 measured-none row from = record { at = λ j h. absurd (not-suc-le-zero h) }
 
--- one block of 16 more
-pub measured-block : (row : List ℕ) (from k : ℕ) → Measured row from (16 * k)
-    → every 16 (λ j. measuredAt row (from + 16 * k + j)) ≡ true → Measured row from (16 * (k + 1))
-measured-block row from k m e =
-    record {
-      at = λ j h. elim (decLe (16 * k) j) [
-        | no n ↦ m .at j (lt-of-not-le n)
-        | yes l ↦
-            subst (λ (x : ℕ). measuredAt row x ≡ true) (let z : from + 16 * k + (j - 16 * k) ≡ from + j = omega arith in z)
-            (every-at 16 (λ i. measuredAt row (from + 16 * k + i)) e (j - 16 * k) (omega arith))
-      ];
-    }
+-- one entry more
+pub measured-more : (row : List ℕ) (from k : ℕ) → Measured row from k → measuredAt row (from + k) ≡ true → Measured row from (k + 1)
+measured-more row from k m e =
+    record { at = below-more (λ j. measuredAt row (from + j) ≡ true) k (m .at) e }
 
 -- ---- the two windows, each from its first entry
 
@@ -136,18 +127,13 @@ module _ {row : List ℕ} {a e w from side : ℕ} (v : Looked row a e w from sid
       every-all 2 (λ d. every w (usable row a e d))
       (λ d l. every-all w (usable row a e d) (λ k z. side-whole row a e w d k (v .room-before) (v .whole-sides d (omega arith)) z))
 
-  -- a block with an entry that cannot be used
-  pub looked-fails : (blocks k : ℕ) → w ≡ 16 * blocks → side < 2 → k < blocks
-      → every 16 (λ j. measuredAt row (from + 16 * k + j)) ≡ false → false ≡ whole row a e w
-  looked-fails blocks k q s h f = go (whole row a e w) refl
+  -- an entry that cannot be used
+  pub looked-fails : (k : ℕ) → side < 2 → k < w → measuredAt row (from + k) ≡ false → false ≡ whole row a e w
+  looked-fails k s h f = go (whole row a e w) refl
     where
       go : (b : Bool) → whole row a e w ≡ b → false ≡ whole row a e w
       go false z = sym z
       go true z =
-          let m : Measured row (beginOf a e w side) w = whole-side row a e w side (v .room-before) s z in
           clash
-          (every-all 16 (λ j. measuredAt row (from + 16 * k + j))
-          (λ j l. subst (λ (x : ℕ). measuredAt row x ≡ true)
-          (let y : beginOf a e w side + (16 * k + j) ≡ from + 16 * k + j = omega (arith, v .begins) in y)
-          (m .at (16 * k + j) (omega arith))))
+          (subst (λ (x : ℕ). measuredAt row (x + k) ≡ true) (sym (v .begins)) (whole-side row a e w side (v .room-before) s z .at k h))
           f

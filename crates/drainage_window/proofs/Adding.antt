@@ -10,7 +10,8 @@ use lib.ListN.{length, getD, drop}
 use lib.Seq.{drop-cons, drop-length}
 use Rattle.rows.specs.Rows.{total}
 use Rattle.drainage_window.specs.declared.Tally.{Tally}
-use Rattle.drainage_window.specs.Window.{tallyOf, Low, Windows, Sized}
+use Rattle.drainage_window.specs.Window.{tallyOf}
+use Rattle.drainage_window.specs.Sizes.{Low, Windows, Sized}
 use Rattle.drainage_window.proofs.Laws.{total-most, squares-most, tally-append, windows-sized}
 
 abbrev pub squared : List ℕ → List ℕ

@@ -5,7 +5,8 @@ use Prim.Native.Nat.{ℕ, _-_, _*_, _≤_}
 use native.Mathlib.Nat.{mul-le-mul}
 use native.Mathlib.Omega.{arith}
 use Rattle.drainage_window.specs.declared.Tally.{Tally}
-use Rattle.drainage_window.specs.Window.{Sized, z95}
+use Rattle.drainage_window.specs.Window.{z95}
+use Rattle.drainage_window.specs.Sizes.{Sized}
 
 sum-most : (n s : ℕ) → n ≤ 576 → s ≤ n * 30000 → s ≤ 17280000
 sum-most n s a b = omega arith

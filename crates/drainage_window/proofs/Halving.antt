@@ -6,7 +6,8 @@ use mathlib.Core.Bool.{true, false}
 use native.Mathlib.Nat.{le-trans, not-suc-le-zero, mul-div-le, lt-mul-div-succ}
 use native.Mathlib.Omega.{arith}
 use Rattle.drainage_window.specs.declared.Tally.{Tally}
-use Rattle.drainage_window.specs.Window.{meanOf, Meets, meets, limitOf, Sized, z95}
+use Rattle.drainage_window.specs.Window.{meanOf, Meets, meets, limitOf, z95}
+use Rattle.drainage_window.specs.Sizes.{Sized}
 use Rattle.drainage_window.proofs.Laws.{meets-true, meets-false, meets-below, above-mean, mean-most, limit-of}
 
 pub record Between (t : Tally) (z low high : ℕ) : Type 0 where

@@ -1,21 +1,26 @@
--- The laws of window statistics for the crates above: bounds of tally, mean and limit, and that the limit is the one
--- solution of document 01's condition. Only `spread-below` looks at the condition's inequality.
+-- The laws of window statistics for the crates above: bounds of tally, mean and limit, that the rule's condition and the test
+-- for it say the same, and that the computed limit is the one limit of rule 7.7.
 -- Assumes nothing.
 use Prim.Native.Nat.{ℕ, zero, suc, _+_, _-_, _*_, _/_, _≤_, _<_, zero-le, suc-le-suc}
 use mathlib.Core.Path.{_≡_, refl, sym, ap, ap₂, _∙_, subst}
 use mathlib.Core.Bool.{Bool, true, false}
 use mathlib.Core.Logic.{_⊎_, inl, inr, ⊎-elim}
 use mathlib.Core.List.{List, [], _∷_, _++_, map, map-append, map-id}
-use native.Mathlib.Nat.{le-refl, le-trans, le-step, not-suc-le-zero, not-le-of-lt, le-of-suc-le-suc, eq-or-lt-of-le, lt-of-le-of-lt, lt-of-not-le, le-antisymm, suc-mul, add-le-add, mul-le-mul, mul-le-mul-left, sub-le-sub-left, lt-mul-div-succ, div-le-of-le-mul}
+use native.Mathlib.Nat.{le-refl, le-trans, le-step, not-suc-le-zero, not-le-of-lt, le-of-suc-le-suc, eq-or-lt-of-le, lt-of-le-of-lt, lt-of-not-le}
+use native.Mathlib.Nat.{le-antisymm, suc-mul, add-le-add, mul-le-mul, mul-le-mul-left, sub-le-sub-left, lt-mul-div-succ, div-le-of-le-mul}
 use native.Mathlib.Decide.{decLe}
 use native.Mathlib.Omega.{arith}
 use lib.Dec.{leb}
+use lib.IntN.{ℤ, pos, _-ℤ_, _*ℤ_, *ℤ-comm}
 use lib.ListN.{length, getD, length-append}
+use lib.Signed.{_≤ℤ_}
 use borrow.Author.Tests.{leb-true, le-leb, lt-leb}
 use Rattle.rows.specs.Rows.{both, total}
 use Rattle.rows.proofs.Laws.{both-true}
+use Rattle.protocol.proofs.Integers.{Is, is-pos, is-minus, is-times, is-same, is-le, le-is}
 use Rattle.drainage_window.specs.declared.Tally.{Tally}
-use Rattle.drainage_window.specs.Window.{tallyOf, meanOf, spreadOf, allowedOf, Meets, IsLimit, meets, greatestUpTo, limitOf, Low, Windows, Sized}
+use Rattle.drainage_window.specs.Window.{tallyOf, meanOf, spreadOf, allowedOf, Meets, IsLimit, meets, greatestUpTo, limitOf}
+use Rattle.drainage_window.specs.Sizes.{Low, Windows, Sized}
 
 -- ---- sums of values that are at most so much
 
@@ -101,16 +106,62 @@ windows-sized before after w =
 
 -- ---- the condition and its test
 
+-- the condition in natural numbers, z2 × S² on the right
+pub record Moved (t : Tally) (z L : ℕ) : Type 0 where
+  pub room : t .n * L ≤ t .sum
+  pub spread : spreadOf t z ≤ allowedOf t z L
+
+-- a difference that is not below 0
+minus-pos : (a b : ℕ) → b ≤ a → (pos a -ℤ pos b) ≡ pos (a - b)
+minus-pos a b h =
+    is-same (pos a -ℤ pos b) (pos (a - b)) (is-minus (pos a) (pos b) (is-pos a) (is-pos b)) (is-pos (a - b)) (omega arith)
+
+-- z × (nQ2 - S²), as what it has above 0 and below 0
+left-is : (z p m : ℕ) → Is (pos z *ℤ (pos p -ℤ pos m)) (p * z) (m * z)
+left-is z p m =
+    subst (λ (w : ℤ). Is w (p * z) (m * z)) (*ℤ-comm (pos p -ℤ pos m) (pos z))
+    (is-times (pos p -ℤ pos m) z (record { is = let e = is-minus (pos p) (pos m) (is-pos p) (is-pos m) .is in omega arith }))
+
+-- n × (S - nL) × (S - nL), once S is at least nL
+right-is : (n s m : ℕ) → m ≤ s
+    → (pos 100 *ℤ ((pos n *ℤ (pos s -ℤ pos m)) *ℤ (pos s -ℤ pos m))) ≡ pos (100 * (n * (s - m) * (s - m)))
+right-is n s m h = ap (λ (d : ℤ). pos 100 *ℤ ((pos n *ℤ d) *ℤ d)) (minus-pos s m h)
+
+-- the rule's form and the one with S² moved across say the same
+module _ (t : Tally) (z L : ℕ) where
+  pub meets-moved : Meets t z L → Moved t z L
+  meets-moved c =
+      let room : t .n * L ≤ t .sum =
+      let h = le-is (pos (t .n * L)) (pos (t .sum)) (is-pos (t .n * L)) (is-pos (t .sum)) (c .room) in omega arith in
+      record { room = room; spread = moved room }
+    where
+      moved : t .n * L ≤ t .sum → spreadOf t z ≤ allowedOf t z L
+      moved room =
+          let d : ℕ = t .sum - t .n * L in
+          let h = le-is _ _ (left-is z (t .n * t .squares) (t .sum * t .sum)) (is-pos (100 * (t .n * d * d)))
+          (subst (λ (w : ℤ). (pos z *ℤ (pos (t .n * t .squares) -ℤ pos (t .sum * t .sum))) ≤ℤ w) (right-is (t .n) (t .sum) (t .n * L) room) (c .spread)) in
+          omega arith
+
+  pub moved-meets : Moved t z L → Meets t z L
+  moved-meets m =
+      record {
+        room = is-le (pos (t .n * L)) (pos (t .sum)) (is-pos (t .n * L)) (is-pos (t .sum)) (omega (arith, m .room));
+        spread =
+            subst (λ (w : ℤ). (pos z *ℤ (pos (t .n * t .squares) -ℤ pos (t .sum * t .sum))) ≤ℤ w) (sym (right-is (t .n) (t .sum) (t .n * L) (m .room)))
+            (is-le _ _ (left-is z (t .n * t .squares) (t .sum * t .sum)) (is-pos (100 * (t .n * (t .sum - t .n * L) * (t .sum - t .n * L))))
+            (omega (arith, m .spread)));
+      }
+
 pub meets-true : (t : Tally) (z L : ℕ) → meets t z L ≡ true → Meets t z L
 unfolding meets
 meets-true t z L e =
     let h = both-true (leb (t .n * L) (t .sum)) (leb (spreadOf t z) (allowedOf t z L)) e in
-    record { room = leb-true (t .n * L) (t .sum) (h .0); spread = leb-true (spreadOf t z) (allowedOf t z L) (h .1) }
+    moved-meets t z L (record { room = leb-true (t .n * L) (t .sum) (h .0); spread = leb-true (spreadOf t z) (allowedOf t z L) (h .1) })
 
 pub meets-met : (t : Tally) (z L : ℕ) → Meets t z L → meets t z L ≡ true
 unfolding meets
-meets-met t z L m =
-    ap₂ both (le-leb (t .n * L) (t .sum) (m .room)) (le-leb (spreadOf t z) (allowedOf t z L) (m .spread))
+meets-met t z L c =
+    let m = meets-moved t z L c in ap₂ both (le-leb (t .n * L) (t .sum) (m .room)) (le-leb (spreadOf t z) (allowedOf t z L) (m .spread))
 
 pub meets-false : (t : Tally) (z L : ℕ) → meets t z L ≡ false → Meets t z L → ⊥
 meets-false t z L e m = clash (meets-met t z L m) e
@@ -139,18 +190,17 @@ spread-below t z L M h =
 
 -- what meets the condition, and everything below it
 pub meets-below : (t : Tally) (z L M : ℕ) → L ≤ M → Meets t z M → Meets t z L
-meets-below t z L M h m =
-    record {
-      room = le-trans (mul-le-mul-left (t .n) h) (m .room);
-      spread = le-trans (m .spread) (spread-below t z L M h);
-    }
+meets-below t z L M h c =
+    let m = meets-moved t z M c in
+    moved-meets t z L
+    (record { room = le-trans (mul-le-mul-left (t .n) h) (m .room); spread = le-trans (m .spread) (spread-below t z L M h) })
 
 -- nothing above the mean meets it
 pub above-mean : (t : Tally) (z M : ℕ) → 0 < t .n → meanOf t < M → Meets t z M → ⊥
 unfolding meanOf
 above-mean t z M p h m =
     not-le-of-lt (lt-mul-div-succ (t .sum) p)
-    (le-trans (mul-le-mul-left (t .n) (let k : t .sum / t .n + 1 ≤ M = omega arith in k)) (m .room))
+    (le-trans (mul-le-mul-left (t .n) (let k : t .sum / t .n + 1 ≤ M = omega arith in k)) (meets-moved t z M m .room))
 
 -- ---- the greatest number that passes a test
 
@@ -160,7 +210,8 @@ module _ (p : ℕ → Bool) where
   unfolding greatestUpTo
   greatest-case k = go (p (suc k)) refl
     where
-      go : (b : Bool) → p (suc k) ≡ b → ((p (suc k) ≡ true) × (greatestUpTo p (suc k) ≡ suc k)) ⊎ ((p (suc k) ≡ false) × (greatestUpTo p (suc k) ≡ greatestUpTo p k))
+      go : (b : Bool) → p (suc k) ≡ b
+          → ((p (suc k) ≡ true) × (greatestUpTo p (suc k) ≡ suc k)) ⊎ ((p (suc k) ≡ false) × (greatestUpTo p (suc k) ≡ greatestUpTo p k))
       go true e = inl (e, ap (λ (b : Bool). elim b [ true ↦ suc k | false ↦ greatestUpTo p k ]) e)
       go false e = inr (e, ap (λ (b : Bool). elim b [ true ↦ suc k | false ↦ greatestUpTo p k ]) e)
 
@@ -197,7 +248,7 @@ module _ (p : ℕ → Bool) where
 
 -- ---- the limit
 
--- the computed limit is what document 01 asks for
+-- the computed limit is what rule 7.7 asks for
 pub limit-is : (t : Tally) (z : ℕ) → 0 < t .n → IsLimit t z (limitOf t z)
 unfolding limitOf
 limit-is t z p =

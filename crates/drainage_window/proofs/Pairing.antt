@@ -7,7 +7,8 @@ use native.Mathlib.Omega.{arith}
 use lib.ListN.{length, getD, drop, length-append}
 use lib.Seq.{drop-length}
 use Rattle.rows.specs.Rows.{total}
-use Rattle.drainage_window.specs.Window.{tallyOf, meanOf, Low}
+use Rattle.drainage_window.specs.Window.{tallyOf, meanOf}
+use Rattle.drainage_window.specs.Sizes.{Low}
 use Rattle.drainage_window.proofs.Laws.{total-append, total-most, tally-most, low-append, mean-most}
 use Rattle.drainage_window.proofs.Adding.{off}
 
@@ -67,14 +68,14 @@ module _ {xs ys : List ℕ} {sum i : ℕ} (p : Pairing xs ys sum i) where
 
   pub mean-all : 16 ≤ i → sum / 32 ≡ meanOf (tallyOf (xs ++ ys))
   unfolding meanOf tallyOf
-  mean-all h = ap₂ _/_ (whole ∙ sym (total-append xs ys)) (sym counted)
+  mean-all h = ap₂ _/_ (added ∙ sym (total-append xs ys)) (sym counted)
     where
       nothing : (zs : List ℕ) → length zs ≡ 16 → total (drop i zs) ≡ 0
       nothing zs e =
           ap total (ap (λ (n : ℕ). drop n zs) (let z : i ≡ length zs = omega (arith, p .within) in z) ∙ drop-length zs)
 
-      whole : sum ≡ total xs + total ys
-      whole = omega (arith, p .left, nothing xs (p .length-xs), nothing ys (p .length-ys))
+      added : sum ≡ total xs + total ys
+      added = omega (arith, p .left, nothing xs (p .length-xs), nothing ys (p .length-ys))
 
       counted : length (xs ++ ys) ≡ 32
       counted = length-append xs ys ∙ (let z : length xs + length ys ≡ 32 = omega (arith, p .length-xs, p .length-ys) in z)

@@ -3,7 +3,24 @@ ghost use Prim.Native.Nat.{_≤_};
 ghost use mathlib.Core.Path.{_≡_};
 ghost use mathlib.Core.List.{_++_};
 ghost use lib.ListN.{length};
-ghost use Rattle.drainage_window.specs.Window.{tallyOf, meanOf, meets, limitOf, z95, Low, Windows, Sized};
+ghost use Rattle.protocol.specs.Ranges.{flowMost};
+ghost use Rattle.drainage_window.specs.Window.{tallyOf, meanOf, meets, limitOf, meanWidth, width95, z95};
+ghost use Rattle.drainage_window.specs.Sizes.{Low, Windows, Sized};
+
+// The entries of each window of a gap, by what is taken of their values: the mean, the 90 % limit, the 95 % limit.
+pub const MEAN_WIDTH: usize = 16;
+
+pub const WIDTH_90: usize = 96;
+
+pub const WIDTH_95: usize = 288;
+
+// The values of both windows of the mean.
+const MEAN_VALUES: u32 = 32;
+
+// z2 of the two limits, in hundredths.
+pub const Z90: u64 = 271;
+
+pub const Z95: u64 = 385;
 
 pub struct Tally {
     pub n: u64,
@@ -12,8 +29,8 @@ pub struct Tally {
 }
 
 // Count, sum and sum of squares of one window.
-fn one(part: &[u16]) -> Tally
-    requires { ⌜ (length (now part) ≤ 288) × Low 30000 (now part) ⌝ }
+fn window_tally(part: &[u16]) -> Tally
+    requires { ⌜ (length (now part) ≤ width95) × Low flowMost (now part) ⌝ }
     ensures { λ r. ⌜ r ≡ tallyOf (now (part .entry)) ⌝ }
 {
     let mut sum: u64 = 0;
@@ -38,8 +55,8 @@ pub fn tally_of(before: &[u16], after: &[u16]) -> Tally
     requires { ⌜ Windows (now before) (now after) ⌝ }
     ensures { λ r. ⌜ (r ≡ tallyOf (now (before .entry) ++ now (after .entry))) × Sized r ⌝ }
 {
-    let a = one(before);
-    let b = one(after);
+    let a = window_tally(before);
+    let b = window_tally(after);
     Tally {
         n: a.n + b.n,
         sum: a.sum + b.sum,
@@ -57,21 +74,21 @@ pub fn mean(t: Tally) -> u64
 
 // The mean of two windows of 16, rounded down: no squares, and a division by 32. Ruled out: one window taken twice; the mean of 16.
 pub fn mean_of_32(before: &[u16], after: &[u16]) -> u64
-    requires { ⌜ (length (now before) ≡ 16) × (length (now after) ≡ 16) × Low 30000 (now before) × Low 30000 (now after) ⌝ }
-    ensures { λ r. ⌜ (r ≡ meanOf (tallyOf (now (before .entry) ++ now (after .entry)))) × (r ≤ 30000) ⌝ }
+    requires { ⌜ (length (now before) ≡ meanWidth) × (length (now after) ≡ meanWidth) × Low flowMost (now before) × Low flowMost (now after) ⌝ }
+    ensures { λ r. ⌜ (r ≡ meanOf (tallyOf (now (before .entry) ++ now (after .entry)))) × (r ≤ flowMost) ⌝ }
 {
     let mut sum: u32 = 0;
     let mut i = 0;
-    while i < 16 {
+    while i < MEAN_WIDTH {
         sum += before[i] as u32 + after[i] as u32;
         i += 1;
     }
-    (sum / 32) as u64
+    (sum / MEAN_VALUES) as u64
 }
 
 // Whether l meets the limit's condition.
 fn meets_at(t: Tally, z: u64, l: u64) -> bool
-    requires { ⌜ Sized t × (z ≤ z95) × (l ≤ 30000) ⌝ }
+    requires { ⌜ Sized t × (z ≤ z95) × (l ≤ flowMost) ⌝ }
     ensures { λ r. ⌜ r ≡ meets t z l ⌝ }
 {
     let n = t.n;

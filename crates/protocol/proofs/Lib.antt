@@ -1,2 +1,3 @@
 pub mod SignedLaws
 pub mod KindLaws
+pub mod Integers

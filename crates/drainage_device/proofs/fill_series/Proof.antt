@@ -6,7 +6,7 @@ use native.Mathlib.Omega.{arith}
 use Rattle.rows.specs.Rows.{build}
 use Rattle.protocol.specs.Ranges.{flowMost}
 use Rattle.drainage_drift.specs.Drift.{correctedAt}
-use Rattle.drainage_gaps.specs.Gaps.{filledAt, Goes}
+use Rattle.drainage_gaps.specs.Private.{filledAt, Goes}
 use Rattle.drainage_device.proofs.Laws.{corrected-goes}
 use borrow.Author.Needs.{needs}
 use Rattle.drainage_device.proofs.fill_series.Statement.{statement}

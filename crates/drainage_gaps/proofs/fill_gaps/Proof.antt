@@ -1,3 +1,4 @@
+-- Every gap is filled once: the loop's invariant is `Filling`.
 use Prim.Native.Nat.{ℕ, _-_, _≤_, _<_}
 use mathlib.Core.Path.{_≡_, refl, sym, ap, _∙_, subst}
 use mathlib.Core.Bool.{true, not}
@@ -7,7 +8,6 @@ use lib.ListN.{length}
 use Rattle.rows.specs.Rows.{Continued}
 use Rattle.drainage_runs.specs.Runs.{missingAt}
 use Rattle.drainage_runs.proofs.Laws.{missing-is, measured-is, around}
-use Rattle.drainage_gaps.specs.Gaps.{heldFor}
 use Rattle.drainage_gaps.proofs.Filling.{Filling, filling-start, filling-next, filling-gap, filling-done, goes-on, length-used}
 use Rattle.drainage_gaps.proofs.fill_gaps.Statement.{statement}
 use Rattle.drainage_gaps.proofs.fill_gaps.Tie as tie
@@ -45,13 +45,10 @@ shared-slice-read-if1 c = search needs
 gap-end-requires : tie.Need-gap-end-requires Inv-loop μ-loop
 gap-end-requires c κs = search needs
 
-replace-gap-requires : tie.Need-replace-gap-requires Inv-loop μ-loop
-replace-gap-requires c κs =
-    let v = loop·replace-gap-requires c .loop .inv .1 in
-    (later (gap-end·replace-gap-requires c), gap-end·replace-gap-requires c .gap-end .ensures .2, v .few, goes-on _ _ _ _ v)
-
 held-requires : tie.Need-held-requires Inv-loop μ-loop
-held-requires c κs = search needs
+held-requires c κs =
+    let v = loop·held-requires c .loop .inv .1 in
+    (later (gap-end·held-requires c), gap-end·held-requires c .gap-end .ensures .2, v .few, goes-on _ _ _ _ v)
 
 spread-requires : tie.Need-spread-requires Inv-loop μ-loop
 spread-requires c κs =
@@ -75,7 +72,7 @@ loop-again c =
           (gap-end·loop-again c .gap-end .result) new (inside (loop-test·loop-again c)) (is-missing (if1·loop-again c))
           (gap-end·loop-again c .gap-end .ensures .0)
           (subst (λ (x : ℕ). Continued (loop·loop-again c .loop .i) (gap-end·loop-again c .gap-end .result) (λ k. x) (loop·loop-again c .loop .used) new)
-          (held·loop-again c .held .ensures ∙ ap heldFor (replace-gap·loop-again c .replace-gap .ensures)) (spread·loop-again c .spread .ensures)),
+          (held·loop-again c .held .ensures) (spread·loop-again c .spread .ensures)),
     )
 
 next-requires : tie.Need-next-requires Inv-loop μ-loop
@@ -117,7 +114,6 @@ fill-gaps-spec =
     mul-if1
     shared-slice-read-if1
     gap-end-requires
-    replace-gap-requires
     held-requires
     spread-requires
     loop-less

@@ -1,7 +1,8 @@
+-- The search goes on past measured entries only.
 use mathlib.Core.Path.{sym, _∙_}
 use native.Mathlib.Omega.{arith}
 use borrow.Author.Needs.{needs}
-use Rattle.drainage_gaps.proofs.Filling.{next-one, next-16}
+use Rattle.drainage_gaps.proofs.Filling.{next-one, next-block}
 use Rattle.drainage_gaps.proofs.next.Statement.{statement}
 use Rattle.drainage_gaps.proofs.next.Tie as tie
 mod PlaceNames
@@ -19,7 +20,7 @@ add-result c = search needs
 returns : tie.Need-returns
 returns c =
     let g = start·returns c .args in
-    (omega arith, omega (arith, if1·returns c .if1 .taken), next-16 (g .reading .now) (g .i) (sym (measured·returns c .measured .ensures) ∙ c .if2 .taken))
+    (omega arith, omega (arith, if1·returns c .if1 .taken), next-block (g .reading .now) (g .i) (sym (measured·returns c .measured .ensures) ∙ c .if2 .taken))
 
 add-result-2 : tie.Need-add-result-2
 add-result-2 c = search needs

@@ -1,14 +1,13 @@
-use Prim.Native.Nat.{ℕ, _+_, _-_, _*_, _≤_, _<_}
-use mathlib.Core.Path.{_≡_, refl, sym, ap, _∙_, subst}
+-- The same value at each interval of a gap.
+use Prim.Native.Nat.{ℕ, _-_, _≤_}
+use mathlib.Core.Path.{_≡_, subst}
 use native.Mathlib.Omega.{arith}
-use lib.ListN.{length, getD}
+use lib.ListN.{length}
 use Rattle.rows.specs.Rows.{Continued}
 use Rattle.rows.proofs.Fill.{continued-none, continued-more}
 use borrow.Author.Needs.{needs}
 use Rattle.drainage_gaps.proofs.spread.Statement.{statement}
 use Rattle.drainage_gaps.proofs.spread.Tie as tie
-use Rattle.drainage_gaps.proofs.spread.Reads as reads
-use Rattle.drainage_gaps.proofs.spread.Lts as lts
 
 abbrev Inv-loop : tie.InvT-loop
 Inv-loop used₀ a e v i₀ used i = (a ≤ i) × (i ≤ e) × (e ≤ length used₀) × Continued a i (λ k. v) used₀ used

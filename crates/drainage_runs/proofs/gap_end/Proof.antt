@@ -1,20 +1,14 @@
-use Prim.Native.Nat.{ℕ, suc, _+_, _-_, _≤_, _<_}
-use mathlib.Core.Path.{_≡_, refl, sym, ap, _∙_, subst}
-use mathlib.Core.Bool.{Bool, true, false, not}
+-- The first measured entry after a gap, or the row's end.
+use Prim.Native.Nat.{_-_, _≤_}
+use mathlib.Core.Path.{_≡_, refl, sym, ap, _∙_}
 use native.Mathlib.Omega.{arith}
 use native.Mathlib.Numerals.{add-one}
-use lib.Dec.{eqb, ltb}
-use lib.ListN.{length, getD}
-use borrow.Author.Tests.{eq-eqb, ne-eqb, lt-ltb, le-ltb}
-use Rattle.rows.specs.Rows.{both, every}
-use Rattle.protocol.specs.Ranges.{missing, mark}
-use Rattle.drainage_runs.specs.Runs.{gapEnd, usable, whole, missingAt, measuredAt}
+use lib.ListN.{length}
+use Rattle.drainage_runs.specs.Runs.{gapEnd}
 use Rattle.drainage_runs.proofs.Laws.{end-on, end-here, end-out, missing-is, measured-is}
 use borrow.Author.Needs.{needs}
 use Rattle.drainage_runs.proofs.gap_end.Statement.{statement}
 use Rattle.drainage_runs.proofs.gap_end.Tie as tie
-use Rattle.drainage_runs.proofs.gap_end.Reads as reads
-use Rattle.drainage_runs.proofs.gap_end.Lts as lts
 mod PlaceNames
 use PlaceNames.*
 

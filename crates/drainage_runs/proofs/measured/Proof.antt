@@ -1,3 +1,4 @@
+-- Whether every entry of a block is measured.
 use Prim.Native.Nat.{_+_, _-_, _≤_}
 use mathlib.Core.Path.{_≡_, refl, ap}
 use mathlib.Core.Bool.{not}

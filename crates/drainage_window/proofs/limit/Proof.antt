@@ -1,3 +1,4 @@
+-- The search by halving gives the limit.
 use Prim.Native.Nat.{_-_}
 use mathlib.Core.Path.{sym, _∙_}
 use native.Mathlib.Omega.{arith}

@@ -1,3 +1,4 @@
+-- The mean, rounded down.
 use mathlib.Core.Path.{refl}
 use Rattle.drainage_window.specs.Window.{meanOf}
 use borrow.Author.Needs.{needs}

@@ -1,3 +1,4 @@
+-- The mean of two windows of 16, without squares.
 use Prim.Native.Nat.{_-_}
 use native.Mathlib.Omega.{arith}
 use borrow.Author.Needs.{needs}

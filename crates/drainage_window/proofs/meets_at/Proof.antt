@@ -1,3 +1,4 @@
+-- The code's test is the condition's, and no product leaves 64 bits.
 use Prim.Native.Nat.{_*_}
 use native.Mathlib.Omega.{arith}
 use borrow.Author.Needs.{needs}

@@ -26,8 +26,8 @@ module _ {Inv-loop : tie.InvT-loop} {μ-loop : tie.MeasureT-loop} where
   abbrev pub start·loop-again-2 : tie.After-next Inv-loop μ-loop → tie.Start Inv-loop μ-loop
   start·loop-again-2 c = start·next-requires (c .before)
 
-  abbrev pub start·spread-requires : tie.After-held Inv-loop μ-loop → tie.Start Inv-loop μ-loop
-  start·spread-requires c = start·later (c .before .before .before .before)
+  abbrev pub start·spread-requires : tie.After-spread-arg Inv-loop μ-loop → tie.Start Inv-loop μ-loop
+  start·spread-requires c = start·later (c .before .before .before)
 
   abbrev pub start·loop-again : tie.After-slice-known2 Inv-loop μ-loop → tie.Start Inv-loop μ-loop
   start·loop-again c = start·spread-requires (c .before .before .before)
@@ -53,11 +53,11 @@ module _ {Inv-loop : tie.InvT-loop} {μ-loop : tie.MeasureT-loop} where
   abbrev pub loop·loop-again-2 : tie.After-next Inv-loop μ-loop → tie.At-loop Inv-loop μ-loop
   loop·loop-again-2 c = loop·next-requires (c .before)
 
-  abbrev pub loop·replace-gap-requires : tie.After-replace-gap-arg Inv-loop μ-loop → tie.At-loop Inv-loop μ-loop
-  loop·replace-gap-requires c = loop·later (c .before)
+  abbrev pub loop·held-requires : tie.After-held-arg Inv-loop μ-loop → tie.At-loop Inv-loop μ-loop
+  loop·held-requires c = loop·later (c .before)
 
-  abbrev pub loop·spread-requires : tie.After-held Inv-loop μ-loop → tie.At-loop Inv-loop μ-loop
-  loop·spread-requires c = loop·replace-gap-requires (c .before .before .before)
+  abbrev pub loop·spread-requires : tie.After-spread-arg Inv-loop μ-loop → tie.At-loop Inv-loop μ-loop
+  loop·spread-requires c = loop·held-requires (c .before .before)
 
   abbrev pub loop·loop-again : tie.After-slice-known2 Inv-loop μ-loop → tie.At-loop Inv-loop μ-loop
   loop·loop-again c = loop·spread-requires (c .before .before .before)
@@ -75,19 +75,19 @@ module _ {Inv-loop : tie.InvT-loop} {μ-loop : tie.MeasureT-loop} where
   loop-test·loop-less-2 c = loop-test·next-requires (c .before)
 
   abbrev pub loop-test·loop-again : tie.After-slice-known2 Inv-loop μ-loop → tie.In-loop Inv-loop μ-loop
-  loop-test·loop-again c = loop-test·later (c .before .before .before .before .before .before .before)
+  loop-test·loop-again c = loop-test·later (c .before .before .before .before .before .before)
 
   abbrev pub if1·later : tie.After-gap-end Inv-loop μ-loop → tie.Then1 Inv-loop μ-loop
   if1·later c = c .before
 
   abbrev pub if1·loop-again : tie.After-slice-known2 Inv-loop μ-loop → tie.Then1 Inv-loop μ-loop
-  if1·loop-again c = if1·later (c .before .before .before .before .before .before .before)
+  if1·loop-again c = if1·later (c .before .before .before .before .before .before)
 
-  abbrev pub gap-end·replace-gap-requires : tie.After-replace-gap-arg Inv-loop μ-loop → tie.After-gap-end Inv-loop μ-loop
-  gap-end·replace-gap-requires c = c .before
+  abbrev pub gap-end·held-requires : tie.After-held-arg Inv-loop μ-loop → tie.After-gap-end Inv-loop μ-loop
+  gap-end·held-requires c = c .before
 
-  abbrev pub gap-end·spread-requires : tie.After-held Inv-loop μ-loop → tie.After-gap-end Inv-loop μ-loop
-  gap-end·spread-requires c = gap-end·replace-gap-requires (c .before .before .before)
+  abbrev pub gap-end·spread-requires : tie.After-spread-arg Inv-loop μ-loop → tie.After-gap-end Inv-loop μ-loop
+  gap-end·spread-requires c = gap-end·held-requires (c .before .before)
 
   abbrev pub gap-end·loop-less : tie.After-slice-known2 Inv-loop μ-loop → tie.After-gap-end Inv-loop μ-loop
   gap-end·loop-less c = gap-end·spread-requires (c .before .before .before)
@@ -95,18 +95,14 @@ module _ {Inv-loop : tie.InvT-loop} {μ-loop : tie.MeasureT-loop} where
   abbrev pub gap-end·loop-again : tie.After-slice-known2 Inv-loop μ-loop → tie.After-gap-end Inv-loop μ-loop
   gap-end·loop-again c = gap-end·loop-less c
 
-  abbrev pub replace-gap·loop-again : tie.After-slice-known2 Inv-loop μ-loop → tie.After-replace-gap Inv-loop μ-loop
-  replace-gap·loop-again c = c .before .before .before .before .before
-
   abbrev pub held·loop-again : tie.After-slice-known2 Inv-loop μ-loop → tie.After-held Inv-loop μ-loop
-  held·loop-again c = c .before .before .before
+  held·loop-again c = c .before .before .before .before
 
   abbrev pub spread·loop-again : tie.After-slice-known2 Inv-loop μ-loop → tie.After-spread Inv-loop μ-loop
   spread·loop-again c = c .before .before
 
 -- What the code binds and asks, in order, as it was when this was generated:
 --   After-shared-slice-known/shared-slice-known After-slice-known/slice-known ?loop-holds At-loop/loop In-loop/loop-test After-loop/loop-test ?mul-if1
---   After-shared-slice-known2/shared-slice-known2 ?shared-slice-read-if1 Then1/if1 ?gap-end-requires After-gap-end/gap-end
---   After-replace-gap-arg/replace-gap-arg ?replace-gap-requires After-replace-gap/replace-gap After-spread-arg/spread-arg ?held-requires After-held/held
---   ?spread-requires After-spread/spread After-used/used After-slice-known2/slice-known2 ?loop-less ?loop-again Else1/if1 ?next-requires After-next/next
---   ?loop-less-2 ?loop-again-2 ?same-length ?returns
+--   After-shared-slice-known2/shared-slice-known2 ?shared-slice-read-if1 Then1/if1 ?gap-end-requires After-gap-end/gap-end After-held-arg/held-arg
+--   ?held-requires After-held/held After-spread-arg/spread-arg ?spread-requires After-spread/spread After-used/used After-slice-known2/slice-known2 ?loop-less
+--   ?loop-again Else1/if1 ?next-requires After-next/next ?loop-less-2 ?loop-again-2 ?same-length ?returns

@@ -3,13 +3,22 @@ use Rattle.drainage_runs.proofs.windows_whole.Tie as tie
 
 module _ {Inv-loop : tie.InvT-loop} {μ-loop : tie.MeasureT-loop} {Inv-look : tie.InvT-look} {μ-look : tie.MeasureT-look} where
   abbrev pub start·returns-2 : tie.Then2 Inv-loop μ-loop Inv-look μ-look → tie.Start Inv-loop μ-loop Inv-look μ-look
-  start·returns-2 c = c .before .before .before
+  start·returns-2 c = c .before .before
 
   abbrev pub start·look-holds : tie.Else2 Inv-loop μ-loop Inv-look μ-look → tie.Start Inv-loop μ-loop Inv-look μ-look
-  start·look-holds c = c .before .before .before
+  start·look-holds c = c .before .before
+
+  abbrev pub start·inside : tie.In-loop Inv-loop μ-loop Inv-look μ-look → tie.Start Inv-loop μ-loop Inv-look μ-look
+  start·inside c = start·look-holds (c .before .before .before .before)
 
   abbrev pub start·look-again : tie.After-loop Inv-loop μ-loop Inv-look μ-look → tie.Start Inv-loop μ-loop Inv-look μ-look
   start·look-again c = start·look-holds (c .before .before .before .before)
+
+  abbrev pub start·returns-4 : tie.Then3 Inv-loop μ-loop Inv-look μ-look → tie.Start Inv-loop μ-loop Inv-look μ-look
+  start·returns-4 c = start·inside (c .before .before)
+
+  abbrev pub start·loop-again : tie.Else3 Inv-loop μ-loop Inv-look μ-look → tie.Start Inv-loop μ-loop Inv-look μ-look
+  start·loop-again c = start·inside (c .before .before)
 
   abbrev pub if1·look-holds : tie.Else2 Inv-loop μ-loop Inv-look μ-look → tie.Else1 Inv-loop μ-loop Inv-look μ-look
   if1·look-holds c = c .before
@@ -20,37 +29,43 @@ module _ {Inv-loop : tie.InvT-loop} {μ-loop : tie.MeasureT-loop} {Inv-look : ti
   abbrev pub look·returns-3 : tie.After-look Inv-loop μ-loop Inv-look μ-look → tie.At-look Inv-loop μ-loop Inv-look μ-look
   look·returns-3 c = c .before
 
-  abbrev pub look·add-measured : tie.In-loop Inv-loop μ-loop Inv-look μ-look → tie.At-look Inv-loop μ-loop Inv-look μ-look
-  look·add-measured c = look·loop-holds (c .before .before)
+  abbrev pub look·inside : tie.In-loop Inv-loop μ-loop Inv-look μ-look → tie.At-look Inv-loop μ-loop Inv-look μ-look
+  look·inside c = look·loop-holds (c .before .before)
 
-  abbrev pub look·measured-requires : tie.In-loop Inv-loop μ-loop Inv-look μ-look → tie.At-look Inv-loop μ-loop Inv-look μ-look
-  look·measured-requires c = look·add-measured c
+  abbrev pub look·add-if3 : tie.In-loop Inv-loop μ-loop Inv-look μ-look → tie.At-look Inv-loop μ-loop Inv-look μ-look
+  look·add-if3 c = look·inside c
+
+  abbrev pub look·mul-if3 : tie.In-loop Inv-loop μ-loop Inv-look μ-look → tie.At-look Inv-loop μ-loop Inv-look μ-look
+  look·mul-if3 c = look·inside c
 
   abbrev pub look·look-again : tie.After-loop Inv-loop μ-loop Inv-look μ-look → tie.At-look Inv-loop μ-loop Inv-look μ-look
   look·look-again c = look·loop-holds (c .before .before)
 
+  abbrev pub look·shared-slice-read-if3 : tie.After-shared-slice-known Inv-loop μ-loop Inv-look μ-look → tie.At-look Inv-loop μ-loop Inv-look μ-look
+  look·shared-slice-read-if3 c = look·inside (c .before)
+
   abbrev pub look·returns-4 : tie.Then3 Inv-loop μ-loop Inv-look μ-look → tie.At-look Inv-loop μ-loop Inv-look μ-look
-  look·returns-4 c = look·add-measured (c .before .before)
+  look·returns-4 c = look·shared-slice-read-if3 (c .before)
 
   abbrev pub look-test·returns-4 : tie.Then3 Inv-loop μ-loop Inv-look μ-look → tie.In-look Inv-loop μ-loop Inv-look μ-look
   look-test·returns-4 c = c .before .before .before .before
+
+  abbrev pub loop·inside : tie.In-loop Inv-loop μ-loop Inv-look μ-look → tie.At-loop Inv-loop μ-loop Inv-look μ-look
+  loop·inside c = c .before
 
   abbrev pub loop·look-again : tie.After-loop Inv-loop μ-loop Inv-look μ-look → tie.At-loop Inv-loop μ-loop Inv-look μ-look
   loop·look-again c = c .before
 
   abbrev pub loop·loop-again : tie.Else3 Inv-loop μ-loop Inv-look μ-look → tie.At-loop Inv-loop μ-loop Inv-look μ-look
-  loop·loop-again c = c .before .before .before
+  loop·loop-again c = loop·inside (c .before .before)
 
   abbrev pub loop-test·returns-4 : tie.Then3 Inv-loop μ-loop Inv-look μ-look → tie.In-loop Inv-loop μ-loop Inv-look μ-look
   loop-test·returns-4 c = c .before .before
 
-  abbrev pub measured·returns-4 : tie.Then3 Inv-loop μ-loop Inv-look μ-look → tie.After-measured Inv-loop μ-loop Inv-look μ-look
-  measured·returns-4 c = c .before
-
-  abbrev pub measured·loop-again : tie.Else3 Inv-loop μ-loop Inv-look μ-look → tie.After-measured Inv-loop μ-loop Inv-look μ-look
-  measured·loop-again c = c .before
+  abbrev pub loop-test·loop-again : tie.Else3 Inv-loop μ-loop Inv-look μ-look → tie.In-loop Inv-loop μ-loop Inv-look μ-look
+  loop-test·loop-again c = c .before .before
 
 -- What the code binds and asks, in order, as it was when this was generated:
---   After-shared-slice-known/shared-slice-known ?mul-w Then1/if1 ?returns Else1/if1 ?add-if2 Then2/if2 ?returns-2 Else2/if2 ?look-holds At-look/look
---   In-look/look-test After-look/look-test ?loop-holds At-loop/loop In-loop/loop-test After-loop/loop-test ?mul-measured ?add-measured ?measured-requires
---   After-measured/measured Then3/if3 Else3/if3 ?add-k ?loop-less ?loop-again ?add-side ?look-less ?look-again ?returns-3 ?returns-4
+--   Then1/if1 ?returns Else1/if1 ?add-if2 Then2/if2 ?returns-2 Else2/if2 ?look-holds At-look/look In-look/look-test After-look/look-test ?loop-holds
+--   At-loop/loop In-loop/loop-test After-loop/loop-test ?add-if3 ?mul-if3 After-shared-slice-known/shared-slice-known ?shared-slice-read-if3 Then3/if3
+--   Else3/if3 ?add-k ?loop-less ?loop-again ?add-side ?look-less ?look-again ?returns-3 ?returns-4

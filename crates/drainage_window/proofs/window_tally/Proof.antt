@@ -1,10 +1,11 @@
+-- Count, sum and sum of squares of one window.
 use Prim.Native.Nat.{_-_}
 use native.Mathlib.Omega.{arith}
 use lib.ListN.{length}
 use Rattle.drainage_window.proofs.Adding.{Adding, adding-none, adding-more, adding-all, value-fits, sum-fits, squares-fit}
 use borrow.Author.Needs.{needs}
-use Rattle.drainage_window.proofs.one.Statement.{statement}
-use Rattle.drainage_window.proofs.one.Tie as tie
+use Rattle.drainage_window.proofs.window_tally.Statement.{statement}
+use Rattle.drainage_window.proofs.window_tally.Tie as tie
 
 abbrev Inv-loop : tie.InvT-loop
 Inv-loop part sum₀ squares₀ i₀ sum squares i = Adding part sum squares i
@@ -45,8 +46,8 @@ loop-again c = adding-more (c .before .before .loop .inv) (c .before .loop-test 
 returns : tie.Need-returns Inv-loop μ-loop
 returns c = adding-all (c .before .loop .inv) (c .loop-test .left)
 
-pub one-spec : {M : Type 1} → statement M
-one-spec =
+pub window-tally-spec : {M : Type 1} → statement M
+window-tally-spec =
     tie.close
     (tie.spec
     Inv-loop
