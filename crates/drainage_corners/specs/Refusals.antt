@@ -6,7 +6,7 @@ use mathlib.Core.List.{List, [], _∷_, _++_}
 use lib.IntN.{pos}
 use lib.ListN.{replicate}
 use Rattle.drainage_readings.specs.Readings.{wrongReading}
-use Rattle.scans.specs.Wrong.{wrongCheck, wrongThing, wrongFuel}
+use Rattle.steps.specs.Wrong.{wrongCheck, wrongThing, wrongFuel}
 use Rattle.drainage_judge.specs.Call.{Call}
 use Rattle.drainage_judge.specs.Steps.{numberOf, verdictOf, intervalsStep, devicesStep, lengthsOf, wantedOf, lengthsStep, mineStep, kindsStep, misplacedStep, checksStep, readingsStep, fuelsStep, judged}
 use Rattle.drainage_judge.specs.declared.Refusal.the-variants.{Intervals, Devices, Lengths, Mine, Kind, Misplaced, Check, Reading, Fuel}

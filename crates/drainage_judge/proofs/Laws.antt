@@ -16,7 +16,7 @@ use Rattle.protocol.specs.Kinds.{isKind, misplaced}
 use Rattle.protocol.specs.Ranges.{flowRight, contentRight, tempRight, pressRight, statusRight, driftRight}
 use Rattle.columns.specs.Series.{InRange}
 use Rattle.drainage_readings.specs.Readings.{wrongReading}
-use Rattle.scans.specs.Wrong.{wrongCheck, wrongThing, wrongFuel}
+use Rattle.steps.specs.Wrong.{wrongCheck, wrongThing, wrongFuel}
 use Rattle.drainage_judge.specs.Call.{Call}
 use Rattle.drainage_judge.specs.Steps.{intervalsStep, devicesStep, lengthsOf, wantedOf, lengthsStep, mineStep, kindsStep, misplacedStep, checksStep, readingsStep, fuelsStep, verdictOf, valueSteps, stepsOf, judged}
 use Rattle.drainage_judge.specs.Accepted.{Clear, AllClear, Refuses, Shaped, Accepted}

@@ -7,7 +7,7 @@ use lib.IntN.{negsuc}
 use Rattle.rows.specs.Rows.{build}
 use Rattle.columns.specs.Series.{seriesOf, checksOf, fuelOf}
 use Rattle.drainage_readings.specs.Readings.{wrongReading}
-use Rattle.scans.specs.Wrong.{wrongCheck, wrongThing, wrongFuel}
+use Rattle.steps.specs.Wrong.{wrongCheck, wrongThing, wrongFuel}
 use Rattle.drainage_judge.specs.Call.{Call}
 use Rattle.drainage_judge.specs.Steps.{numberOf, verdictOf, intervalsStep, devicesStep, lengthsOf, wantedOf, lengthsStep, mineStep, kindsStep, misplacedStep, checksStep, readingsStep, fuelsStep, judged}
 use Rattle.drainage_judge.specs.declared.Refusal.the-variants.{Lengths, Kind, Misplaced, Check, Reading, Fuel}

@@ -10,7 +10,7 @@ use Rattle.rows.specs.Rows.{pick, first}
 use Rattle.protocol.specs.Kinds.{isKind, isMine, misplaced}
 use Rattle.protocol.specs.Ranges.{intervalsMost, devicesMost, checksMost, fuelsMost, fromOne}
 use Rattle.drainage_readings.specs.Readings.{wrongReading}
-use Rattle.scans.specs.Wrong.{wantedFor, wrongThing, wrongFuel, thingPlace}
+use Rattle.steps.specs.Wrong.{wantedFor, wrongThing, wrongFuel, thingPlace}
 use Rattle.drainage_judge.specs.Call.{Call}
 use Rattle.drainage_judge.specs.declared.Refusal.{Refusal}
 use Rattle.drainage_judge.specs.declared.Refusal.the-variants.{Intervals, Devices, Lengths, Mine, Kind, Misplaced, Check, Reading, Fuel}
