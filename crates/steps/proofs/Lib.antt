@@ -1,1 +1,3 @@
+pub mod Verdicts
 pub mod Tests
+pub mod Clear

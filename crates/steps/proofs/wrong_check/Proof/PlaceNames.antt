@@ -44,7 +44,7 @@ abbrev pub if3·returns-4 : tie.After-shared-slice-known3 → tie.Else3
 if3·returns-4 c = c .before
 
 -- What the code binds and asks, in order, as it was when this was generated:
---   After-shared-slice-known/shared-slice-known ?mul-place ?add-place ?mul-place-2 After-shared-slice-known2/shared-slice-known2 ?shared-slice-read-place
---   Then1/if1 ?returns Else1/if1 ?mul-drift-right ?add-drift-right ?mul-drift-right-2 ?shared-slice-copy-out-drift-right After-drift-right-arg/drift-right-arg
---   ?drift-right-requires After-drift-right/drift-right Then2/if2 ?returns-2 Else2/if2 Then3/if3 ?returns-3 Else3/if3 ?mul-result ?sub-result ?add-result
---   ?mul-result-2 After-shared-slice-known3/shared-slice-known3 ?shared-slice-read-result ?returns-4
+--   After-shared-slice-known/shared-slice-known ?mul-position ?add-position ?mul-position-2 After-shared-slice-known2/shared-slice-known2
+--   ?shared-slice-read-position Then1/if1 ?returns Else1/if1 ?mul-drift-right ?add-drift-right ?mul-drift-right-2 ?shared-slice-copy-out-drift-right
+--   After-drift-right-arg/drift-right-arg ?drift-right-requires After-drift-right/drift-right Then2/if2 ?returns-2 Else2/if2 Then3/if3 ?returns-3 Else3/if3
+--   ?mul-result ?sub-result ?add-result ?mul-result-2 After-shared-slice-known3/shared-slice-known3 ?shared-slice-read-result ?returns-4

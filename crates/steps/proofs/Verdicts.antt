@@ -1,7 +1,7 @@
 -- The first refusal of a list of steps: how a scan's answer settles one step, what a verdict means, and that it is the only one.
 -- Assumes nothing.
 use Prim.Native.Nat.{ℕ, _≤_, _<_}
-use mathlib.Core.Path.{_≡_, refl, sym, ap, _∙_, subst}
+use mathlib.Core.Path.{_≡_, refl, sym, ap, _∙_}
 use mathlib.Core.Bool.{Bool, true, false}
 use mathlib.Core.List.{List, [], _∷_}
 use native.Mathlib.Omega.{arith}
@@ -10,32 +10,27 @@ use borrow.Author.Tests.{lt-ltb, le-ltb, ltb-true, ltb-false}
 use Rattle.rows.specs.Rows.{pick, FirstOf}
 use Rattle.rows.proofs.Laws.{first-of, first-is}
 use Rattle.rows.proofs.Scan.{passed-none, passed-more, passed-found, passed-all}
-use Rattle.drainage_judge.specs.Steps.{Step, offender, verdictOf}
-use Rattle.drainage_judge.specs.Accepted.{Clear, AllClear, Refuses}
-use Rattle.drainage_judge.specs.declared.Refusal.{Refusal}
-use Rattle.drainage_judge.specs.declared.Verdict.the-variants.{Clean, Refused}
+use Rattle.refusals.specs.declared.Refusal.{Refusal}
+use Rattle.refusals.specs.declared.Verdict.{Verdict}
+use Rattle.refusals.specs.declared.Verdict.the-variants.{Clean, Refused}
+use Rattle.refusals.specs.Table.{toldBy}
+use Rattle.steps.specs.Step.{Step, offender, verdictOf, Clear, AllClear, Refuses, Tells}
+use Rattle.steps.specs.Scans.{Finds}
 
 -- ---- a scan's answer settles its step
 
 module _ (s : Step) (ss : List Step) (r : ℕ) where
-  step-stops : FirstOf (s .size) (s .bad) r → r < s .size → verdictOf (s ∷ ss) ≡ Refused (s .refusal r)
+  pub stops : Finds s r → r < s .size → verdictOf (s ∷ ss) ≡ Refused (s .refusal r)
   unfolding verdictOf
-  step-stops x h =
+  stops x h =
       ap (λ (k : ℕ). pick (ltb k (s .size)) (Refused (s .refusal k)) (verdictOf ss)) (sym (first-of (s .size) (s .bad) r x))
       ∙ ap (λ (b : Bool). pick b (Refused (s .refusal r)) (verdictOf ss)) (lt-ltb r (s .size) h)
 
-  step-goes : FirstOf (s .size) (s .bad) r → s .size ≤ r → verdictOf (s ∷ ss) ≡ verdictOf ss
+  pub goes : Finds s r → s .size ≤ r → verdictOf (s ∷ ss) ≡ verdictOf ss
   unfolding verdictOf
-  step-goes x h =
+  goes x h =
       ap (λ (k : ℕ). pick (ltb k (s .size)) (Refused (s .refusal k)) (verdictOf ss)) (sym (first-of (s .size) (s .bad) r x))
       ∙ ap (λ (b : Bool). pick b (Refused (s .refusal r)) (verdictOf ss)) (le-ltb r (s .size) h)
-
-  -- the same, where the scan has its own word n for the step's size
-  pub stops : (n : ℕ) → s .size ≡ n → FirstOf n (s .bad) r → r < n → verdictOf (s ∷ ss) ≡ Refused (s .refusal r)
-  stops n e x h = step-stops (subst (λ (m : ℕ). FirstOf m (s .bad) r) (sym e) x) (subst (λ (m : ℕ). r < m) (sym e) h)
-
-  pub goes : (n : ℕ) → s .size ≡ n → FirstOf n (s .bad) r → n ≤ r → verdictOf (s ∷ ss) ≡ verdictOf ss
-  goes n e x h = step-goes (subst (λ (m : ℕ). FirstOf m (s .bad) r) (sym e) x) (subst (λ (m : ℕ). m ≤ r) (sym e) h)
 
 pub end-clean : verdictOf [] ≡ Clean
 unfolding verdictOf
@@ -44,10 +39,11 @@ end-clean = refl
 -- a step that looks at one thing
 module _ (s : Step) (ss : List Step) where
   pub one-stops : s .size ≡ 1 → s .bad 0 ≡ true → verdictOf (s ∷ ss) ≡ Refused (s .refusal 0)
-  one-stops e b = stops s ss 0 1 e (passed-found _ _ 0 (passed-none _ _) b) (omega arith)
+  one-stops e b = stops s ss 0 (passed-found _ _ 0 (passed-none _ _) b) (omega (arith, e))
 
   pub one-goes : s .size ≡ 1 → s .bad 0 ≡ false → verdictOf (s ∷ ss) ≡ verdictOf ss
-  one-goes e b = goes s ss 1 1 e (passed-all _ _ 1 (passed-more _ _ 0 (passed-none _ _) (omega arith) b) (omega arith)) (omega arith)
+  one-goes e b =
+      goes s ss 1 (passed-all _ _ 1 (passed-more _ _ 0 (passed-none _ _) (omega (arith, e)) b) (omega (arith, e))) (omega (arith, e))
 
 -- ---- what a verdict means
 
@@ -65,12 +61,12 @@ module _ (s : Step) (ss : List Step) where
       x = first-is (s .size) (s .bad)
 
       go : (b : Bool) → ltb (offender s) (s .size) ≡ b → P
-      go true e = let h : offender s < s .size = ltb-true _ _ e in f h (step-stops s ss (offender s) x h)
+      go true e = let h : offender s < s .size = ltb-true _ _ e in f h (stops s ss (offender s) x h)
       go false e =
           let h : s .size ≤ offender s = ltb-false _ _ e in
-          g (record { clear = λ k l. x .before k (omega arith) }) (step-goes s ss (offender s) x h)
+          g (record { clear = λ k l. x .before k (omega arith) }) (goes s ss (offender s) x h)
 
--- "none otherwise": clean exactly if no step has an offender
+-- clean exactly if no step has an offender (rule 5.3)
 pub clean-clear : (ss : List Step) → verdictOf ss ≡ Clean → AllClear ss
 clean-clear [] e = AllClear.none
 clean-clear (s ∷ ss) e =
@@ -80,14 +76,14 @@ clean-clear (s ∷ ss) e =
 
 clear-goes : (s : Step) (ss : List Step) → Clear s → verdictOf (s ∷ ss) ≡ verdictOf ss
 clear-goes s ss x =
-    step-goes s ss (s .size) (record { within = omega arith; before = x .clear; found = λ h. absurd (let w : ⊥ = omega arith in w) }) (omega arith)
+    goes s ss (s .size) (record { within = omega arith; before = x .clear; found = λ h. absurd (let w : ⊥ = omega arith in w) }) (omega arith)
 
 pub clear-clean : (ss : List Step) → AllClear ss → verdictOf ss ≡ Clean
 unfolding verdictOf
 clear-clean [] AllClear.none = refl
 clear-clean (s ∷ ss) (AllClear.more x y) = clear-goes s ss x ∙ clear-clean ss y
 
--- "The lowest number that applies is given": a refusal is the first offender's of the first step that has one
+-- a refusal is that of the first offender of the first step that has one (rule 5.2)
 pub refused-first : (ss : List Step) (r : Refusal) → verdictOf ss ≡ Refused r → Refuses ss r
 unfolding verdictOf
 refused-first [] r e = let z : _≡_ {A = ℕ} 0 1 = cc in absurd (zero-is-one z)
@@ -97,7 +93,7 @@ refused-first (s ∷ ss) r e =
     (λ x q. Refuses.later x (refused-first ss r (sym q ∙ e)))
 
 pub first-refused : (ss : List Step) (r : Refusal) → Refuses ss r → verdictOf ss ≡ Refused r
-first-refused (s ∷ ss) r (Refuses.here k x h e) = step-stops s ss k x h ∙ ap Refused (sym e)
+first-refused (s ∷ ss) r (Refuses.here k x h e) = stops s ss k x h ∙ ap Refused (sym e)
 first-refused (s ∷ ss) r (Refuses.later x y) = clear-goes s ss x ∙ first-refused ss r y
 
 -- there is one refusal only, and none where all is clear
@@ -113,6 +109,15 @@ refuses-unclear ss r x y =
     let b : verdictOf ss ≡ Clean = clear-clean ss y in
     let z : _≡_ {A = ℕ} 0 1 = cc in
     zero-is-one z
+
+-- ---- what is told of a verdict
+
+pub verdict-tells : (ss : List Step) (v : Verdict) → v ≡ verdictOf ss → Tells ss (toldBy v)
+verdict-tells ss v e =
+    record {
+      clear = λ x. ap toldBy (e ∙ clear-clean ss x);
+      offended = λ r x. ap toldBy (e ∙ first-refused ss r x);
+    }
 
 -- ---- one step of many, wherever it stands in the order
 
