@@ -3,7 +3,7 @@
 use Prim.Native.Nat.{ℕ, _≤_, _<_}
 use mathlib.Core.Path.{_≡_, refl, sym, ap, _∙_}
 use mathlib.Core.Bool.{Bool, true, false}
-use mathlib.Core.List.{List, [], _∷_}
+use mathlib.Core.List.{List, [], _∷_, _++_}
 use native.Mathlib.Omega.{arith}
 use lib.Dec.{ltb}
 use borrow.Author.Tests.{lt-ltb, le-ltb, ltb-true, ltb-false}
@@ -109,6 +109,22 @@ refuses-unclear ss r x y =
     let b : verdictOf ss ≡ Clean = clear-clean ss y in
     let z : _≡_ {A = ℕ} 0 1 = cc in
     zero-is-one z
+
+-- ---- a list in two parts: the first part's refusal is the whole's, else the second part decides
+
+pub part-stops : (xs ys : List Step) (r : Refusal) → verdictOf xs ≡ Refused r → verdictOf (xs ++ ys) ≡ Refused r
+part-stops xs ys r e = first-refused (xs ++ ys) r (longer xs (refused-first xs r e))
+  where
+    longer : (xs : List Step) → Refuses xs r → Refuses (xs ++ ys) r
+    longer (s ∷ ss) (Refuses.here k x h q) = Refuses.here k x h q
+    longer (s ∷ ss) (Refuses.later x y) = Refuses.later x (longer ss y)
+
+pub part-goes : (xs ys : List Step) → verdictOf xs ≡ Clean → verdictOf (xs ++ ys) ≡ verdictOf ys
+part-goes xs ys e = past xs (clean-clear xs e)
+  where
+    past : (xs : List Step) → AllClear xs → verdictOf (xs ++ ys) ≡ verdictOf ys
+    past [] AllClear.none = refl
+    past (s ∷ ss) (AllClear.more x y) = clear-goes s (ss ++ ys) x ∙ past ss y
 
 -- ---- what is told of a verdict
 
