@@ -4,16 +4,19 @@ ghost use mathlib.Core.Path.{_≡_};
 ghost use mathlib.Core.Bool.{false};
 ghost use lib.ListN.{length, getD};
 ghost use Rattle.rows.specs.Rows.{build};
-ghost use Rattle.protocol.specs.Ranges.{mark, flowMost};
+ghost use Rattle.protocol.specs.Ranges.{intervalsMost, flowMost};
 ghost use Rattle.columns.specs.Series.{seriesNow, checksNow, seriesAt, checksAt};
 ghost use Rattle.drainage_drift.specs.Drift.{Ordered, correctedAt};
 ghost use Rattle.drainage_runs.specs.Runs.{missingAt};
 ghost use Rattle.drainage_gaps.specs.Gaps.{filledAt};
 ghost use Rattle.drainage_device.specs.Device.{Right, Filled, Low};
+use drainage_outcomes::OUTCOMES;
+use protocol::CHECKS;
+use protocol::DEVICE_CHECKS;
 
-// A device's account: ten counts, one for each outcome, and its litres.
+// A device's account: how many of its intervals have each outcome, and its litres.
 pub struct Account {
-    pub counts: [u64; 10],
+    pub outcomes: [u64; OUTCOMES],
     pub methane: u64,
     pub destroyed: u64,
     pub uncombusted: u64,
@@ -23,7 +26,7 @@ pub struct Account {
 // of a replacement.
 fn fill_series(reading: &[u16], count: u32, positions: &[u32], drifts: &[i32], used: &mut [u16])
     requires { ⌜ Ordered (record { count = count; positions = now positions; drifts = now drifts }) (length (now reading))
-        × (length (now used) ≡ length (now reading)) × (length (now reading) ≤ 35136) × Low (now reading) flowMost ⌝ }
+        × (length (now used) ≡ length (now reading)) × (length (now reading) ≤ intervalsMost) × Low (now reading) flowMost ⌝ }
     ensures { λ r. ⌜ now (used .exit)
         ≡ build (length (now (reading .entry)))
         (filledAt (now (reading .entry))
@@ -61,15 +64,15 @@ pub fn fill_row(
     fill_series(
         flow,
         counts[0],
-        &positions[0..32],
-        &drifts[0..32],
+        &positions[0..CHECKS],
+        &drifts[0..CHECKS],
         flow_used,
     );
     fill_series(
         content,
         counts[1],
-        &positions[32..64],
-        &drifts[32..64],
+        &positions[CHECKS..DEVICE_CHECKS],
+        &drifts[CHECKS..DEVICE_CHECKS],
         content_used,
     );
     let s = drainage_outcomes::finish(
@@ -82,12 +85,12 @@ pub fn fill_row(
         flow_used,
         content_used,
     );
-    let tally = s.counts;
+    let outcomes = s.outcomes;
     let methane = s.methane;
     let destroyed = balance::destroyed(kind, methane);
     let uncombusted = balance::uncombusted(kind, methane);
     Account {
-        counts: tally,
+        outcomes,
         methane,
         destroyed,
         uncombusted,

@@ -15,9 +15,9 @@ use Rattle.drainage_runs.specs.Runs.{excluding}
 use Rattle.drainage_outcomes.specs.declared.Entry.{Entry}
 use Rattle.drainage_outcomes.specs.declared.Sums.{Sums}
 
--- how many outcomes there are, from 0: "ten counts, one for each outcome"
-abbrev pub outcomes : ℕ
-outcomes = 10
+-- how many outcomes there are, from 0 (rule 8.1)
+abbrev pub outcomeKinds : ℕ
+outcomeKinds = 10
 
 -- "3 stopped; 4 status code 3; 5 temperature or pressure missing; 6 flow and CH4 both missing; 7 one missing and status 1;
 -- 8 that gap has 673 or more; 9 its window isn't whole; then counted as 1 flow replaced, 2 CH4 replaced, 0 both measured".
@@ -76,10 +76,10 @@ entryAt h i =
     entryOf (getD (h .series .flow) i mark) (getD (h .series .content) i mark) (getD (h .series .temp) i (pos 0)) (getD (h .series .press) i 0) (getD (h .series .status) i 0)
     (getD (h .flow-held) i mark) (getD (h .content-held) i mark)
 
--- each count is the number of intervals with that outcome, beside the sum of their litres
+-- rule 8.6: how many intervals have each outcome, beside the sum of their litres
 unfoldable pub sumsOf : ℕ → (ℕ → Entry) → Sums
 sumsOf n entry =
-    record { counts = build outcomes (countOf n (λ i. entry i .outcome)); methane = sumTo n (λ i. entry i .litres) }
+    record { outcomes = build outcomeKinds (countOf n (λ i. entry i .outcome)); methane = sumTo n (λ i. entry i .litres) }
 
 -- what is held for a reading: a value up to b, or the outcome 8 or 9 where the reading is missing
 pub record Holds (reading held b : ℕ) : Type 0 where
