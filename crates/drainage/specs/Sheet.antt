@@ -1,5 +1,4 @@
--- The sheet's figures: "counted, replaced (outcomes 1 and 2, part of counted) and excluded are device-intervals; intervals and
--- devices are N and D; the litre and mg lines are sums over devices, fuel once".
+-- The sheet's figures (rule 11.3), from the sums over devices.
 -- Assumes nothing.
 use Prim.Native.Nat.{ℕ}
 use lib.ListN.{length, getD}
@@ -16,7 +15,7 @@ use Rattle.drainage_devices.specs.declared.Totals.{Totals}
 abbrev pub lentIn : Call → Lent
 lentIn c = record { intervals = c .intervals; kinds = c .kinds; checks = c .checks; series = c .series }
 
--- "fuel once"
+-- fuel mg (rule 9.10)
 unfoldable pub fuelSum : Fuel → ℕ
 fuelSum f = fuelMg (length (f .quantity)) (λ k. getD (f .quantity) k 0) (λ k. getD (f .factor) k 0)
 

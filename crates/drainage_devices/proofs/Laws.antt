@@ -125,7 +125,7 @@ module _ (l : Lent) (devices : ℕ) (x : Sound l devices) (d : ℕ) (h : d < dev
   unfolding recordsOf
   row-long = Series.row-long (l .series .flow) devices (l .intervals) d h (x .long .flow)
 
-  counts-are : (j : ℕ) → j < 10 → getD (accountOf (recordsOf l d) .outcomes) j 0 ≡ countIn l d j
+  pub counts-are : (j : ℕ) → j < 10 → getD (accountOf (recordsOf l d) .outcomes) j 0 ≡ countIn l d j
   unfolding accountOf countIn
   counts-are j z =
       getD-build outcomeKinds (countOf (intervalsOf (recordsOf l d)) (outcomeAt (recordsOf l d))) j 0 z
