@@ -12,12 +12,13 @@ use Rattle.drainage_gaps.specs.Gaps.{widthOf, ruleOf, windowValues, replacement
 use Rattle.drainage_judge.specs.Call.{Call}
 use Rattle.drainage_outcomes.specs.Outcomes.{outcomeOf}
 use Rattle.drainage_device.specs.Device.{instrumentOf, correctedFlow, correctedContent, outcomeAt, valueAt, flowUsedAt, contentUsedAt}
-use Rattle.drainage_devices.specs.Devices.{recordsOf, outcomePart, flowPart, contentPart, Rows, rowsOf}
+use Rattle.drainage_devices.specs.Devices.{recordsOf, outcomePart, flowPart, contentPart, accountPart, Results, resultsOf}
 use Rattle.drainage.specs.Sheet.{lentIn}
 use Rattle.drainage_corners.specs.Calls.{worked, checked, gapped}
 
-abbrev after : Call → Rows
-after c = rowsOf (lentIn c) 1
+-- the results of a call with one device, where nothing stood in the accounts
+abbrev after : Call → Results
+after c = resultsOf (lentIn c) 1 (record { outcome = []; flow = []; content = []; accounts = replicate 208 0 })
 
 -- the worked example's rows
 measured : after worked ≡ record { outcome = 0 ∷ []; flow = 30000 ∷ []; content = 10000 ∷ [] }
