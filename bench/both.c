@@ -69,7 +69,7 @@ void ask_quantify(int which, const struct record *r, const size_t l[SLICES], str
         r->intervals, r->devices, r->mine, r->kinds, l[KINDS], r->counts, l[COUNTS], r->places, l[PLACES], r->drifts, l[DRIFTS],
         r->flow, l[FLOW], r->content, l[CONTENT], r->temp, l[TEMP], r->press, l[PRESS], r->status, l[STATUS],
         r->quantity, l[QUANTITY], r->factor, l[FACTOR], a->outcome, l[OUTCOME], a->flow_used, l[FLOW_USED],
-        a->content_used, l[CONTENT_USED], a->amounts, a->balances, a->at);
+        a->content_used, l[CONTENT_USED], a->accounts, a->amounts, a->balances, a->at);
 }
 
 void ask_read(int which, const uint8_t *text, size_t length, struct reading *a)
@@ -82,6 +82,7 @@ void ask_read(int which, const uint8_t *text, size_t length, struct reading *a)
 int same_answer(const struct answer *a, const struct answer *b, size_t entries)
 {
     return a->number == b->number && memcmp(a->at, b->at, sizeof a->at) == 0
+           && memcmp(a->accounts, b->accounts, sizeof a->accounts) == 0
            && memcmp(a->amounts, b->amounts, sizeof a->amounts) == 0 && memcmp(a->balances, b->balances, sizeof a->balances) == 0
            && memcmp(a->outcome, b->outcome, entries * sizeof *a->outcome) == 0
            && memcmp(a->flow_used, b->flow_used, entries * sizeof *a->flow_used) == 0

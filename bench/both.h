@@ -12,7 +12,7 @@ enum { KINDS, COUNTS, PLACES, DRIFTS, FLOW, CONTENT, TEMP, PRESS, STATUS, QUANTI
 
 /* What a call of quantification answers, with the rows that it is lent. */
 struct answer {
-    uint64_t number, at[2], amounts[CMM_AMOUNTS];
+    uint64_t number, at[2], accounts[CMM_ACCOUNTS], amounts[CMM_AMOUNTS];
     int64_t balances[CMM_BALANCES];
     uint8_t *outcome;
     uint16_t *flow_used, *content_used;

@@ -21,7 +21,7 @@ uint64_t hand_quantify(
     uint8_t *outcome, size_t outcome_length,
     uint16_t *flow_used, size_t flow_used_length,
     uint16_t *content_used, size_t content_used_length,
-    uint64_t amounts[CMM_AMOUNTS], int64_t balances[CMM_BALANCES], uint64_t at[2]);
+    uint64_t accounts[CMM_ACCOUNTS], uint64_t amounts[CMM_AMOUNTS], int64_t balances[CMM_BALANCES], uint64_t at[2]);
 
 uint64_t hand_read_record(
     const uint8_t *t, size_t t_length,

@@ -85,6 +85,17 @@ enum {
 };
 enum { CMM_REDUCTION_MG, CMM_TONNES, CMM_BALANCES };
 
+/* A device's account: how many of its intervals have each outcome, 0 to 9, then its litres. Device d's number k stands in
+ * `accounts` at CMM_ACCOUNT * d + k. */
+enum {
+    CMM_OUTCOMES = 10,
+    CMM_ACCOUNT_METHANE_L = CMM_OUTCOMES,
+    CMM_ACCOUNT_DESTROYED_L,
+    CMM_ACCOUNT_UNCOMBUSTED_L,
+    CMM_ACCOUNT,                                /* 13 */
+    CMM_ACCOUNTS = CMM_DEVICES_MOST * CMM_ACCOUNT /* 208 */
+};
+
 /* Quantifies the records of a reporting period. With N intervals and D devices:
  *
  *   mine          0 underground, 1 surface
@@ -103,6 +114,8 @@ enum { CMM_REDUCTION_MG, CMM_TONNES, CMM_BALANCES };
  *   outcome       D N, written: 0 both measured, 1 flow replaced, 2 CH4 replaced, 3 .. 9 why the interval is excluded
  *   flow_used     D N, written: the flow that counts, 0 where the interval is excluded
  *   content_used  D N, written: the CH4 content that counts, 0 where the interval is excluded
+ *   accounts      written: each device's account, CMM_ACCOUNT numbers for each of the D devices, device 0 first. The ten counts add
+ *                 to N, destroyed and uncombusted litres to the methane's. The entries past D accounts stay as they are.
  *   amounts, balances   written: the sheet's figures
  *   at            written, always: the device and the place of what is refused, 0 and 0 where nothing is. The place is the interval
  *                 for 8, the entry for 7 and 9 (32 or 64 for a wrong count), else 0. The device is 0 for 1 to 4 and for 9.
@@ -124,7 +137,7 @@ uint64_t cmm_quantify(
     uint8_t *outcome, size_t outcome_length,
     uint16_t *flow_used, size_t flow_used_length,
     uint16_t *content_used, size_t content_used_length,
-    uint64_t amounts[CMM_AMOUNTS], int64_t balances[CMM_BALANCES], uint64_t at[2]);
+    uint64_t accounts[CMM_ACCOUNTS], uint64_t amounts[CMM_AMOUNTS], int64_t balances[CMM_BALANCES], uint64_t at[2]);
 
 /* Writes a sheet's text, fifteen key=value lines, of any figures, at the start of `buf`, and changes no byte after its end.
  * `size` gets the length written. A buffer of CMM_TEXT_MOST bytes is never too short; if it is, nothing is written, `size` gets

@@ -14,7 +14,7 @@ struct call {
     int16_t *temp;
     uint8_t *status, *outcome;
     size_t length[SLICES], entries;
-    uint64_t *amounts, *at;
+    uint64_t *accounts, *amounts, *at;
     int64_t *balances;
 };
 
@@ -41,6 +41,7 @@ static void lend(struct call *c, size_t n, size_t d, size_t fuels)
     c->outcome = fenced(n * d * sizeof *c->outcome);
     c->flow_used = fenced(n * d * sizeof *c->flow_used);
     c->content_used = fenced(n * d * sizeof *c->content_used);
+    c->accounts = fenced(CMM_ACCOUNTS * sizeof *c->accounts);
     c->amounts = fenced(CMM_AMOUNTS * sizeof *c->amounts);
     c->balances = fenced(CMM_BALANCES * sizeof *c->balances);
     c->at = fenced(2 * sizeof *c->at);
@@ -80,7 +81,7 @@ static uint64_t ask(struct call *c)
     return cmm_quantify(c->intervals, c->devices, c->mine, c->kinds, l[KINDS], c->counts, l[COUNTS], c->places, l[PLACES],
                         c->drifts, l[DRIFTS], c->flow, l[FLOW], c->content, l[CONTENT], c->temp, l[TEMP], c->press, l[PRESS],
                         c->status, l[STATUS], c->quantity, l[QUANTITY], c->factor, l[FACTOR], c->outcome, l[OUTCOME],
-                        c->flow_used, l[FLOW_USED], c->content_used, l[CONTENT_USED], c->amounts, c->balances, c->at);
+                        c->flow_used, l[FLOW_USED], c->content_used, l[CONTENT_USED], c->accounts, c->amounts, c->balances, c->at);
 }
 
 /* The call is refused so, and nothing but `at` is written. */
@@ -92,8 +93,31 @@ static void refused(const char *name, struct call c, uint64_t number, uint64_t d
     expect(untouched(c.outcome, n * sizeof *c.outcome) && untouched(c.flow_used, n * sizeof *c.flow_used)
                && untouched(c.content_used, n * sizeof *c.content_used),
            name, "rows as they were");
+    expect(untouched(c.accounts, CMM_ACCOUNTS * sizeof *c.accounts), name, "accounts as they were");
     expect(untouched(c.amounts, CMM_AMOUNTS * sizeof *c.amounts) && untouched(c.balances, CMM_BALANCES * sizeof *c.balances), name,
            "figures as they were");
+}
+
+/* Each device's counts are those of its outcomes, its litres are destroyed or uncombusted, the sheet's litres are the sums, and
+ * what stands past the last device's account is as it was. */
+static void accounted(const char *name, const struct call *c)
+{
+    static const int lines[3] = {CMM_METHANE_L, CMM_DESTROYED_L, CMM_UNCOMBUSTED_L};
+    uint64_t sums[3] = {0, 0, 0};
+    for (size_t d = 0; d < c->devices; d++) {
+        const uint64_t *account = c->accounts + CMM_ACCOUNT * d, *litres = account + CMM_OUTCOMES;
+        uint64_t counts[CMM_OUTCOMES] = {0};
+        for (size_t i = 0; i < c->intervals; i++)
+            counts[c->outcome[d * c->intervals + i]]++;
+        expect(memcmp(account, counts, sizeof counts) == 0, name, "a count for each outcome");
+        expect(litres[1] + litres[2] == litres[0], name, "each litre once");
+        for (int k = 0; k < 3; k++)
+            sums[k] += litres[k];
+    }
+    for (int k = 0; k < 3; k++)
+        expect(sums[k] == c->amounts[lines[k]], name, "the sums of the accounts");
+    expect(untouched(c->accounts + CMM_ACCOUNT * c->devices, (CMM_ACCOUNTS - CMM_ACCOUNT * c->devices) * sizeof *c->accounts), name,
+           "the accounts of no device");
 }
 
 static void accepted(const char *name, struct call *c)
@@ -101,6 +125,7 @@ static void accepted(const char *name, struct call *c)
     expect(ask(c) == 0, name, "accepted");
     expect(c->at[0] == 0 && c->at[1] == 0, name, "no device, no place");
     expect(c->amounts[CMM_COUNTED] + c->amounts[CMM_EXCLUDED] == (uint64_t)c->intervals * c->devices, name, "every interval once");
+    accounted(name, c);
 }
 
 static void check_worked(void)
@@ -110,6 +135,9 @@ static void check_worked(void)
     expect(memcmp(c.amounts, worked_amounts, sizeof worked_amounts) == 0, "worked example", "amounts");
     expect(memcmp(c.balances, worked_balances, sizeof worked_balances) == 0, "worked example", "balances");
     expect(c.outcome[0] == 0 && c.flow_used[0] == 30000 && c.content_used[0] == 10000, "worked example", "rows");
+    expect(c.accounts[0] == 1 && c.accounts[CMM_ACCOUNT_METHANE_L] == 3000000 && c.accounts[CMM_ACCOUNT_DESTROYED_L] == 2985000
+               && c.accounts[CMM_ACCOUNT_UNCOMBUSTED_L] == 15000,
+           "worked example", "account");
 }
 
 static void check_limits(void)

@@ -6,6 +6,7 @@ use crate::series::WORDS;
 use crate::show;
 use crate::tokens;
 use drainage::Answer;
+use drainage_devices::ACCOUNTS;
 use figures::Figures;
 
 struct Head {
@@ -167,6 +168,7 @@ fn asked(
     flow_used: &mut [u16],
     content_used: &mut [u16],
 ) -> Answer {
+    let mut accounts = [0u64; ACCOUNTS];
     drainage::quantify(
         h.intervals,
         h.devices,
@@ -185,6 +187,7 @@ fn asked(
         series::lent_u8(outcome, s.outcome),
         series::lent_u16(flow_used, s.flow_used),
         series::lent_u16(content_used, s.content_used),
+        &mut accounts,
     )
 }
 

@@ -20,25 +20,25 @@ use Rattle.drainage_record.specs.declared.ReadAnswer as RecordType
 use Rattle.drainage_record.specs.declared.ReadAnswer.the-variants as RecordAnswer
 use Rattle.drainage_record.proofs.ReadAnswer as RecordAnswerType
 use Rattle.cmm.specs.Figures.{amountsOf, balancesOf}
-use Rattle.cmm.specs.Exported.{Held, given, heldAfter, heldOf, headed, headAfter}
+use Rattle.cmm.specs.Exported.{Arrays, given, arraysAfter, arraysOf, headed, headAfter}
 
 -- what is given is the figures' arrays
-both-given : (f : Figures) (new : Held) → (new .amounts ≡ amountsOf f) × (new .balances ≡ balancesOf f) → new ≡ given f
+both-given : (f : Figures) (new : Arrays) → (new .amounts ≡ amountsOf f) × (new .balances ≡ balancesOf f) → new ≡ given f
 both-given f new w = λ i. record { amounts = w .0 i; balances = w .1 i }
 
-pub accepted-held : (a : Answer) (f : Figures) (old new : Held) → a ≡ Answer.Accepted f
-    → (new .amounts ≡ amountsOf f) × (new .balances ≡ balancesOf f) → new ≡ heldAfter a old
-accepted-held a f old new is w = both-given f new w ∙ sym (ap (λ (x : Answer). heldAfter x old) is)
+pub accepted-held : (a : Answer) (f : Figures) (old new : Arrays) → a ≡ Answer.Accepted f
+    → (new .amounts ≡ amountsOf f) × (new .balances ≡ balancesOf f) → new ≡ arraysAfter a old
+accepted-held a f old new is w = both-given f new w ∙ sym (ap (λ (x : Answer). arraysAfter x old) is)
 
-pub refused-held : (a : Answer) (old : Held) → tagOf AnswerType.the-type a ≡ 1 → old ≡ heldAfter a old
+pub refused-held : (a : Answer) (old : Arrays) → tagOf AnswerType.the-type a ≡ 1 → old ≡ arraysAfter a old
 refused-held (Answer.Accepted f) old tag = absurd (omega (arith, tag))
 refused-held (Answer.Refused r) old tag = refl
 
-pub sheet-held : (a : ReadAnswer) (f : Figures) (old new : Held) → a ≡ ReadAnswer.Sheet f
-    → (new .amounts ≡ amountsOf f) × (new .balances ≡ balancesOf f) → new ≡ heldOf a old
-sheet-held a f old new is w = both-given f new w ∙ sym (ap (λ (x : ReadAnswer). heldOf x old) is)
+pub sheet-held : (a : ReadAnswer) (f : Figures) (old new : Arrays) → a ≡ ReadAnswer.Sheet f
+    → (new .amounts ≡ amountsOf f) × (new .balances ≡ balancesOf f) → new ≡ arraysOf a old
+sheet-held a f old new is w = both-given f new w ∙ sym (ap (λ (x : ReadAnswer). arraysOf x old) is)
 
-pub no-sheet-held : (a : ReadAnswer) (old : Held) → tagOf ReadAnswerType.the-type a ≡ 1 → old ≡ heldOf a old
+pub no-sheet-held : (a : ReadAnswer) (old : Arrays) → tagOf ReadAnswerType.the-type a ≡ 1 → old ≡ arraysOf a old
 no-sheet-held (ReadAnswer.Sheet f) old tag = absurd (omega (arith, tag))
 no-sheet-held (ReadAnswer.NoSheet k) old tag = refl
 

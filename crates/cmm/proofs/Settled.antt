@@ -4,7 +4,7 @@ use mathlib.Core.Path.{_≡_, sym, ap, _∙_}
 use mathlib.Core.List.{List, [], _∷_}
 use native.Mathlib.Omega.{arith}
 use Rattle.drainage_judge.specs.Call.{Call}
-use Rattle.drainage_devices.specs.Devices.{Rows}
+use Rattle.drainage_devices.specs.Devices.{Results}
 use Rattle.figures.specs.declared.Figures.{Figures}
 use Rattle.drainage.specs.Promise.{numberIn, deviceIn, placeIn}
 use Rattle.drainage.specs.declared.Answer.{Answer}
@@ -18,25 +18,25 @@ use Rattle.drainage_record_form.specs.Rows as Record
 use Rattle.drainage_record.specs.Read as Reader
 use Rattle.drainage_record.specs.declared.ReadAnswer as RecordType
 use Rattle.drainage_record.proofs.Settled as RecordSettled
-use Rattle.cmm.specs.Exported.{Held, heldAfter, heldOf, sizeOf, headAfter, Quantified, SheetWritten, SheetRead, RecordRead}
+use Rattle.cmm.specs.Exported.{Arrays, arraysAfter, arraysOf, sizeOf, headAfter, Quantified, SheetWritten, SheetRead, RecordRead}
 
 -- two things told of two answers that are one
 told-once : {A B : Type 0} (f : A → B) {a b : A} {x y : B} → a ≡ b → x ≡ f a → y ≡ f b → x ≡ y
 told-once f e p q = p ∙ ap f e ∙ sym q
 
-pub record Same (one two : Rows) (held other : Held) (at at′ : List ℕ) (m n : ℕ) : Type 0 where
-  pub rows : one ≡ two
+pub record Same (one two : Results) (held other : Arrays) (at at′ : List ℕ) (m n : ℕ) : Type 0 where
+  pub results : one ≡ two
   pub figures : held ≡ other
   pub place : at ≡ at′
   pub number : m ≡ n
 
-pub quantified-settled : (c : Call) (before one two : Rows) (old held other : Held) (at at′ : List ℕ) (m n : ℕ)
+pub quantified-settled : (c : Call) (before one two : Results) (old held other : Arrays) (at at′ : List ℕ) (m n : ℕ)
     → Quantified c before one old held at m → Quantified c before two old other at′ n → Same one two held other at at′ m n
 quantified-settled c before one two old held other at at′ m n x y =
     let e = settled-unique c before one two (x .answer) (y .answer) (x .settled) (y .settled) in
     record {
-      rows = e .1;
-      figures = told-once (λ (a : Answer). heldAfter a old) (e .0) (x .figures) (y .figures);
+      results = e .1;
+      figures = told-once (λ (a : Answer). arraysAfter a old) (e .0) (x .figures) (y .figures);
       place = told-once (λ (a : Answer). deviceIn a ∷ placeIn a ∷ []) (e .0) (x .place) (y .place);
       number = told-once numberIn (e .0) (x .told) (y .told);
     }
@@ -50,11 +50,11 @@ written-settled f old new other size size′ m n x y =
       told-once Write.numberOf (e .0) (x .told) (y .told),
     )
 
-pub sheet-read-settled : (t : List ℕ) (old held other : Held) (at at′ : List ℕ) (m n : ℕ)
+pub sheet-read-settled : (t : List ℕ) (old held other : Arrays) (at at′ : List ℕ) (m n : ℕ)
     → SheetRead t old held at m → SheetRead t old other at′ n → (held ≡ other) × (at ≡ at′) × (m ≡ n)
 sheet-read-settled t old held other at at′ m n x y =
     let e = read-settled t (x .answer) (y .answer) (x .right) (y .right) in (
-      told-once (λ (a : ReadAnswer). heldOf a old) e (x .figures) (y .figures),
+      told-once (λ (a : ReadAnswer). arraysOf a old) e (x .figures) (y .figures),
       told-once (λ (a : ReadAnswer). Read.placeOf a ∷ []) e (x .place) (y .place),
       told-once Read.numberOf e (x .told) (y .told),
     )

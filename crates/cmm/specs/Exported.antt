@@ -6,7 +6,7 @@ use mathlib.Core.List.{List, [], _∷_}
 use lib.IntN.{ℤ}
 use Rattle.figures.specs.declared.Figures.{Figures}
 use Rattle.drainage_judge.specs.Call.{Call}
-use Rattle.drainage_devices.specs.Devices.{Rows}
+use Rattle.drainage_devices.specs.Devices.{Results}
 use Rattle.drainage.specs.Promise.{Settled, numberIn, deviceIn, placeIn}
 use Rattle.drainage.specs.declared.Answer.{Answer}
 use Rattle.drainage.specs.declared.Answer.the-variants as Answer
@@ -26,23 +26,23 @@ use Rattle.drainage_record.specs.declared.ReadAnswer.the-variants as RecordAnsw
 use Rattle.cmm.specs.Figures.{amountsOf, balancesOf}
 
 -- the host's two arrays of figures
-pub record Held : Type 0 where
+pub record Arrays : Type 0 where
   pub amounts : List ℕ
   pub balances : List ℤ
 
-abbrev pub given : Figures → Held
+abbrev pub given : Figures → Arrays
 given f = record { amounts = amountsOf f; balances = balancesOf f }
 
-abbrev pub heldAfter : Answer → Held → Held
-heldAfter (Answer.Accepted f) before = given f
-heldAfter (Answer.Refused r) before = before
+abbrev pub arraysAfter : Answer → Arrays → Arrays
+arraysAfter (Answer.Accepted f) before = given f
+arraysAfter (Answer.Refused r) before = before
 
-pub record Quantified (c : Call) (before after : Rows) (old new : Held) (at : List ℕ) (number : ℕ) : Type 0 where
+pub record Quantified (c : Call) (before after : Results) (old new : Arrays) (at : List ℕ) (number : ℕ) : Type 0 where
   pub answer : Answer
   pub settled : Settled c before after answer
   pub told : number ≡ numberIn answer
   pub place : at ≡ deviceIn answer ∷ placeIn answer ∷ []
-  pub figures : new ≡ heldAfter answer old
+  pub figures : new ≡ arraysAfter answer old
 
 -- the length written, or needed
 abbrev pub sizeOf : WriteAnswer → ℕ
@@ -55,16 +55,16 @@ pub record SheetWritten (f : Figures) (old new : List ℕ) (size : List ℕ) (nu
   pub told : number ≡ Write.numberOf answer
   pub length : size ≡ sizeOf answer ∷ []
 
-abbrev pub heldOf : ReadAnswer → Held → Held
-heldOf (ReadAnswer.Sheet f) before = given f
-heldOf (ReadAnswer.NoSheet k) before = before
+abbrev pub arraysOf : ReadAnswer → Arrays → Arrays
+arraysOf (ReadAnswer.Sheet f) before = given f
+arraysOf (ReadAnswer.NoSheet k) before = before
 
-pub record SheetRead (t : List ℕ) (old new : Held) (offset : List ℕ) (number : ℕ) : Type 0 where
+pub record SheetRead (t : List ℕ) (old new : Arrays) (offset : List ℕ) (number : ℕ) : Type 0 where
   pub answer : ReadAnswer
   pub right : ReadRight t answer
   pub told : number ≡ Read.numberOf answer
   pub place : offset ≡ Read.placeOf answer ∷ []
-  pub figures : new ≡ heldOf answer old
+  pub figures : new ≡ arraysOf answer old
 
 -- the numbers at a record's head
 abbrev pub headed : Header → List ℕ

@@ -1,3 +1,4 @@
 pub mod Sound
 pub mod Settling
 pub mod Burning
+pub mod Counting

@@ -25,7 +25,7 @@ use Rattle.drainage_gaps.proofs.Laws.{Bounded, replacement-bounded}
 use Rattle.drainage_gaps.proofs.Filling.{filled-measured, filled-missing}
 use Rattle.volume.specs.Volume.{methaneLitres, litresMost, Inside}
 use Rattle.balance.specs.Balance.{destroyedOf, uncombustedOf, deviceMost}
-use Rattle.drainage_outcomes.specs.Outcomes.{outcomes, outcomeOf, counted, usedFor, litresFor, heldOutcome, entryOf, entryAt, sumsOf, Held, Holds, Ready, ReadyAt, Finished}
+use Rattle.drainage_outcomes.specs.Outcomes.{outcomeKinds, outcomeOf, counted, usedFor, litresFor, heldOutcome, entryOf, entryAt, sumsOf, Held, Holds, Ready, ReadyAt, Finished}
 use Rattle.drainage_outcomes.specs.declared.Entry.{Entry}
 use Rattle.drainage_outcomes.specs.declared.Sums.{Sums}
 use Rattle.drainage_outcomes.proofs.Laws.{outcome-of-ten, methane-most, counted-used}
@@ -296,10 +296,10 @@ module _ (r : Records) (x : Right r) where
       ∙ ap (λ (o : ℕ). litresFor o (entryAt (heldOf r) i .flow) (entryAt (heldOf r) i .content) (getD (heldOf r .series .temp) i (pos 0)) (getD (heldOf r .series .press) i 0)) (outcome-is i l)
       ∙ ap₂ (λ (f c : ℕ). litresFor (outcomeAt r i) f c (getD (heldOf r .series .temp) i (pos 0)) (getD (heldOf r .series .press) i 0)) (flow-is i l) (content-is i l)
 
-  sums-counts : sumsOf (intervalsOf r) (entryAt (heldOf r)) .counts ≡ accountOf r .counts
+  sums-counts : sumsOf (intervalsOf r) (entryAt (heldOf r)) .outcomes ≡ accountOf r .outcomes
   unfolding sumsOf accountOf
   sums-counts =
-      build-ext outcomes (countOf (intervalsOf r) (λ i. entryAt (heldOf r) i .outcome)) (countOf (intervalsOf r) (outcomeAt r))
+      build-ext outcomeKinds (countOf (intervalsOf r) (λ i. entryAt (heldOf r) i .outcome)) (countOf (intervalsOf r) (outcomeAt r))
       (λ j z. sumTo-ext (intervalsOf r) (λ k. hit (entryAt (heldOf r) k .outcome) j) (λ k. hit (outcomeAt r k) j)
       (λ k l. ap (λ (o : ℕ). hit o j) (outcome-is k l)))
 
@@ -316,7 +316,7 @@ module _ (r : Records) (x : Right r) where
   -- the last pass, and the account made of its sums
   pub filled : (o f c : List ℕ) (s : Sums) (destroyed uncombusted : ℕ) → Finished (heldOf r) o f c s
       → destroyed ≡ destroyedOf (r .kind) (s .methane) → uncombusted ≡ uncombustedOf (r .kind) (s .methane)
-      → Filled r o f c (record { counts = s .counts; methane = s .methane; destroyed = destroyed; uncombusted = uncombusted })
+      → Filled r o f c (record { outcomes = s .outcomes; methane = s .methane; destroyed = destroyed; uncombusted = uncombusted })
   unfolding heldOf accountOf
   filled o f c s d u z p q =
       record {
@@ -325,7 +325,7 @@ module _ (r : Records) (x : Right r) where
         content-row = z .content-row ∙ build-ext (intervalsOf r) (λ i. entryAt (heldOf r) i .content) (contentUsedAt r) content-is;
         account = λ k.
             record {
-              counts = (ap (λ (t : Sums). t .counts) (z .sums) ∙ sums-counts) k;
+              outcomes = (ap (λ (t : Sums). t .outcomes) (z .sums) ∙ sums-counts) k;
               methane = litres k;
               destroyed = (p ∙ ap (destroyedOf (r .kind)) litres) k;
               uncombusted = (q ∙ ap (uncombustedOf (r .kind)) litres) k;
@@ -342,12 +342,12 @@ module _ (r : Records) (x : Right r) where
 
   -- ---- for the crate above
 
-  pub outcome-few : (i : ℕ) → i < intervalsOf r → outcomeAt r i < outcomes
+  pub outcome-few : (i : ℕ) → i < intervalsOf r → outcomeAt r i < outcomeKinds
   outcome-few i l = subst (λ (o : ℕ). o < 10) (outcome-is i l) (outcome-of-ten (heldOf r) (intervalsOf r) ready i l)
 
-  -- "ten counts, one for each outcome, adding to N"
-  pub counts-add-up : sumTo outcomes (countOf (intervalsOf r) (outcomeAt r)) ≡ intervalsOf r
-  counts-add-up = counts-add (intervalsOf r) outcomes (outcomeAt r) outcome-few
+  -- rule 8.6: the ten counts add to N
+  pub counts-add-up : sumTo outcomeKinds (countOf (intervalsOf r) (outcomeAt r)) ≡ intervalsOf r
+  counts-add-up = counts-add (intervalsOf r) outcomeKinds (outcomeAt r) outcome-few
 
   -- each litre is destroyed or uncombusted, once
   pub litres-once : accountOf r .destroyed + accountOf r .uncombusted ≡ accountOf r .methane
@@ -401,7 +401,7 @@ module _ (r : Records) (x : Right r) (f c : List ℕ) (y : Filling r f c) where
     sums-held = sums-most r x o g d s settled
 
     pub filled-held : (destroyed uncombusted : ℕ) → destroyed ≡ destroyedOf (r .kind) (s .methane) → uncombusted ≡ uncombustedOf (r .kind) (s .methane)
-        → Filled r o g d (record { counts = s .counts; methane = s .methane; destroyed = destroyed; uncombusted = uncombusted })
+        → Filled r o g d (record { outcomes = s .outcomes; methane = s .methane; destroyed = destroyed; uncombusted = uncombusted })
     filled-held a b p q = filled r x o g d s a b settled p q
 
 -- the contract permits one result only

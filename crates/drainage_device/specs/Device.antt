@@ -8,12 +8,12 @@ use mathlib.Core.List.{List, [], _∷_}
 use lib.IntN.{ℤ, pos}
 use lib.ListN.{length, getD}
 use Rattle.rows.specs.Rows.{pick, either, build, sumTo, countOf, cut}
-use Rattle.protocol.specs.Ranges.{intervalsMost, mark, tempMissing, pressMissing}
+use Rattle.protocol.specs.Ranges.{intervalsMost, checksMost, mark, tempMissing, pressMissing}
 use Rattle.columns.specs.Series.{Series, Checks, Long, ChecksLong, InRange}
 use Rattle.drainage_drift.specs.Drift.{Instrument, correctedAt, Ordered}
 use Rattle.drainage_runs.specs.Runs.{missingAt}
 use Rattle.drainage_gaps.specs.Gaps.{Replaced, replacementAt}
-use Rattle.drainage_outcomes.specs.Outcomes.{outcomes, outcomeOf, counted, usedFor, litresFor}
+use Rattle.drainage_outcomes.specs.Outcomes.{outcomeKinds, outcomeOf, counted, usedFor, litresFor}
 use Rattle.balance.specs.Balance.{destroyedOf, uncombustedOf}
 use Rattle.drainage_device.specs.declared.Account.{Account}
 
@@ -32,8 +32,8 @@ unfoldable pub instrumentOf : Records → ℕ → Instrument
 instrumentOf r g =
     record {
       count = getD (r .checks .counts) g 0;
-      positions = cut (r .checks .positions) (32 * g) (32 * g + 32);
-      drifts = cut (r .checks .drifts) (32 * g) (32 * g + 32);
+      positions = cut (r .checks .positions) (checksMost * g) (checksMost * g + checksMost);
+      drifts = cut (r .checks .drifts) (checksMost * g) (checksMost * g + checksMost);
     }
 
 -- "This precedes replacement": each series with its drift taken out
@@ -84,11 +84,11 @@ litresAt r i =
 unfoldable pub methaneOf : Records → ℕ
 methaneOf r = sumTo (intervalsOf r) (litresAt r)
 
--- "the account of a device holds ten counts, one for each outcome", beside its litres
+-- rule 8.6: how many of its intervals have each outcome; rules 9.3 to 9.5: its litres
 unfoldable pub accountOf : Records → Account
 accountOf r =
     record {
-      counts = build outcomes (countOf (intervalsOf r) (outcomeAt r));
+      outcomes = build outcomeKinds (countOf (intervalsOf r) (outcomeAt r));
       methane = methaneOf r;
       destroyed = destroyedOf (r .kind) (methaneOf r);
       uncombusted = uncombustedOf (r .kind) (methaneOf r);

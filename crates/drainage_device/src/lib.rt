@@ -10,10 +10,13 @@ ghost use Rattle.drainage_drift.specs.Drift.{Ordered, correctedAt};
 ghost use Rattle.drainage_runs.specs.Runs.{missingAt};
 ghost use Rattle.drainage_gaps.specs.Private.{filledAt};
 ghost use Rattle.drainage_device.specs.Device.{Right, Filled, Low};
+use drainage_outcomes::OUTCOMES;
+use protocol::CHECKS;
+use protocol::DEVICE_CHECKS;
 
-// A device's account: ten counts, one for each outcome, and its litres.
+// A device's account: how many of its intervals have each outcome, and its litres.
 pub struct Account {
-    pub counts: [u64; 10],
+    pub outcomes: [u64; OUTCOMES],
     pub methane: u64,
     pub destroyed: u64,
     pub uncombusted: u64,
@@ -61,15 +64,15 @@ pub fn fill_row(
     fill_series(
         flow,
         counts[0],
-        &positions[0..32],
-        &drifts[0..32],
+        &positions[0..CHECKS],
+        &drifts[0..CHECKS],
         flow_used,
     );
     fill_series(
         content,
         counts[1],
-        &positions[32..64],
-        &drifts[32..64],
+        &positions[CHECKS..DEVICE_CHECKS],
+        &drifts[CHECKS..DEVICE_CHECKS],
         content_used,
     );
     let s = drainage_outcomes::finish(
@@ -82,12 +85,12 @@ pub fn fill_row(
         flow_used,
         content_used,
     );
-    let tally = s.counts;
+    let outcomes = s.outcomes;
     let methane = s.methane;
     let destroyed = balance::destroyed(kind, methane);
     let uncombusted = balance::uncombusted(kind, methane);
     Account {
-        counts: tally,
+        outcomes,
         methane,
         destroyed,
         uncombusted,

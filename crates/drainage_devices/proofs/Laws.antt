@@ -10,7 +10,7 @@ use native.Mathlib.Omega.{arith}
 use lib.Dec.{eqb}
 use mir.Syntax.{w64}
 use mir.Val.{Fits}
-use lib.ListN.{length, getD, List·getD-eq-default}
+use lib.ListN.{length, getD, length-append, List·getD-eq-default}
 use Rattle.rows.specs.Rows.{pick, build, sumTo, countOf, hit, cut, put, join}
 use Rattle.rows.proofs.Laws.{length-build, getD-build, length-cut, room, length-put}
 use Rattle.rows.proofs.Sums.{sumTo-bound, sumTo-ext}
@@ -19,20 +19,21 @@ use Rattle.columns.proofs.Laws as Series
 use Rattle.protocol.specs.Numbers.{methaneMg}
 use Rattle.balance.specs.Balance.{destroyedOf, uncombustedOf, overDevices, baselineAll, carbonDioxideAll, uncombustedAll, baselineMg, carbonDioxideMg, uncombustedMg, deviceMost}
 use Rattle.balance.proofs.Laws.{destroyed-le, uncombusted-le, baseline-most, carbon-most, uncombusted-most}
-use Rattle.drainage_outcomes.specs.Outcomes.{outcomes}
+use Rattle.drainage_outcomes.specs.Outcomes.{outcomeKinds}
 use Rattle.drainage_device.specs.Device.{Records, intervalsOf, outcomeAt, flowUsedAt, contentUsedAt, methaneOf, accountOf, Right, Filled}
 use Rattle.drainage_device.specs.declared.Account.{Account}
 use Rattle.drainage_device.proofs.Laws.{device-most}
 use Rattle.drainage_devices.specs.declared.Totals.{Totals}
-use Rattle.drainage_devices.specs.Devices.{Lent, recordsOf, outcomePart, flowPart, contentPart, Sound, Written}
-use Rattle.drainage_devices.specs.Totals.{countIn, countedIn, replacedIn, excludedIn, kindIn, litresIn, totalsOf, added, Room}
+use Rattle.drainage_devices.specs.Devices.{Lent, recordsOf, outcomePart, flowPart, contentPart, numbersOf, accountSize, Sound}
+use Rattle.drainage_devices.specs.Totals.{countIn, countedIn, replacedIn, excludedIn, kindIn, litresIn, totalsOf}
+use Rattle.drainage_devices.specs.Private.{Written, added, Room}
 
 -- what the code adds up is what the specification adds
 pub added-is : (t : Totals) (a : Account) (b c u : ℕ) → b ≡ methaneMg * a .methane → c ≡ carbonDioxideMg (a .destroyed) → u ≡ methaneMg * a .uncombusted
     → record {
-      counted = t .counted + (getD (a .counts) 0 0 + getD (a .counts) 1 0 + getD (a .counts) 2 0);
-      replaced = t .replaced + (getD (a .counts) 1 0 + getD (a .counts) 2 0);
-      excluded = t .excluded + (getD (a .counts) 3 0 + getD (a .counts) 4 0 + getD (a .counts) 5 0 + getD (a .counts) 6 0 + getD (a .counts) 7 0 + getD (a .counts) 8 0 + getD (a .counts) 9 0);
+      counted = t .counted + (getD (a .outcomes) 0 0 + getD (a .outcomes) 1 0 + getD (a .outcomes) 2 0);
+      replaced = t .replaced + (getD (a .outcomes) 1 0 + getD (a .outcomes) 2 0);
+      excluded = t .excluded + (getD (a .outcomes) 3 0 + getD (a .outcomes) 4 0 + getD (a .outcomes) 5 0 + getD (a .outcomes) 6 0 + getD (a .outcomes) 7 0 + getD (a .outcomes) 8 0 + getD (a .outcomes) 9 0);
       methane = t .methane + a .methane;
       destroyed = t .destroyed + a .destroyed;
       uncombusted = t .uncombusted + a .uncombusted;
@@ -44,8 +45,8 @@ pub added-is : (t : Totals) (a : Account) (b c u : ℕ) → b ≡ methaneMg * a 
 unfolding added baselineMg uncombustedMg
 added-is t a b c u p q r i =
     record {
-      counted = t .counted + (getD (a .counts) 0 0 + getD (a .counts) 1 0 + getD (a .counts) 2 0);
-      replaced = t .replaced + (getD (a .counts) 1 0 + getD (a .counts) 2 0);
+      counted = t .counted + (getD (a .outcomes) 0 0 + getD (a .outcomes) 1 0 + getD (a .outcomes) 2 0);
+      replaced = t .replaced + (getD (a .outcomes) 1 0 + getD (a .outcomes) 2 0);
       excluded = same i;
       methane = t .methane + a .methane;
       destroyed = t .destroyed + a .destroyed;
@@ -55,36 +56,36 @@ added-is t a b c u p q r i =
       «uncombusted_mg» = t .«uncombusted_mg» + r i;
     }
   where
-    same : t .excluded + (getD (a .counts) 3 0 + getD (a .counts) 4 0 + getD (a .counts) 5 0 + getD (a .counts) 6 0 + getD (a .counts) 7 0 + getD (a .counts) 8 0 + getD (a .counts) 9 0)
-        ≡ t .excluded + sumTo 7 (λ j. getD (a .counts) (3 + j) 0)
+    same : t .excluded + (getD (a .outcomes) 3 0 + getD (a .outcomes) 4 0 + getD (a .outcomes) 5 0 + getD (a .outcomes) 6 0 + getD (a .outcomes) 7 0 + getD (a .outcomes) 8 0 + getD (a .outcomes) 9 0)
+        ≡ t .excluded + sumTo 7 (λ j. getD (a .outcomes) (3 + j) 0)
     same = omega arith
 
 -- the sums that the code makes fit, in the order in which it makes them
 pub record Sums (t : Totals) (a : Account) : Type 0 where
-  pub replaced-two : Fits w64 (getD (a .counts) 1 0 + getD (a .counts) 2 0)
-  pub excluded-to-4 : Fits w64 (getD (a .counts) 3 0 + getD (a .counts) 4 0)
-  pub excluded-to-5 : Fits w64 (getD (a .counts) 3 0 + getD (a .counts) 4 0 + getD (a .counts) 5 0)
-  pub excluded-to-6 : Fits w64 (getD (a .counts) 3 0 + getD (a .counts) 4 0 + getD (a .counts) 5 0 + getD (a .counts) 6 0)
-  pub excluded-to-7 : Fits w64 (getD (a .counts) 3 0 + getD (a .counts) 4 0 + getD (a .counts) 5 0 + getD (a .counts) 6 0 + getD (a .counts) 7 0)
-  pub excluded-to-8 : Fits w64 (getD (a .counts) 3 0 + getD (a .counts) 4 0 + getD (a .counts) 5 0 + getD (a .counts) 6 0 + getD (a .counts) 7 0 + getD (a .counts) 8 0)
-  pub excluded-to-9 : Fits w64 (getD (a .counts) 3 0 + getD (a .counts) 4 0 + getD (a .counts) 5 0 + getD (a .counts) 6 0 + getD (a .counts) 7 0 + getD (a .counts) 8 0 + getD (a .counts) 9 0)
-  pub replaced : Fits w64 (t .replaced + (getD (a .counts) 1 0 + getD (a .counts) 2 0))
-  pub excluded : Fits w64 (t .excluded + (getD (a .counts) 3 0 + getD (a .counts) 4 0 + getD (a .counts) 5 0 + getD (a .counts) 6 0 + getD (a .counts) 7 0 + getD (a .counts) 8 0 + getD (a .counts) 9 0))
+  pub replaced-two : Fits w64 (getD (a .outcomes) 1 0 + getD (a .outcomes) 2 0)
+  pub excluded-to-4 : Fits w64 (getD (a .outcomes) 3 0 + getD (a .outcomes) 4 0)
+  pub excluded-to-5 : Fits w64 (getD (a .outcomes) 3 0 + getD (a .outcomes) 4 0 + getD (a .outcomes) 5 0)
+  pub excluded-to-6 : Fits w64 (getD (a .outcomes) 3 0 + getD (a .outcomes) 4 0 + getD (a .outcomes) 5 0 + getD (a .outcomes) 6 0)
+  pub excluded-to-7 : Fits w64 (getD (a .outcomes) 3 0 + getD (a .outcomes) 4 0 + getD (a .outcomes) 5 0 + getD (a .outcomes) 6 0 + getD (a .outcomes) 7 0)
+  pub excluded-to-8 : Fits w64 (getD (a .outcomes) 3 0 + getD (a .outcomes) 4 0 + getD (a .outcomes) 5 0 + getD (a .outcomes) 6 0 + getD (a .outcomes) 7 0 + getD (a .outcomes) 8 0)
+  pub excluded-to-9 : Fits w64 (getD (a .outcomes) 3 0 + getD (a .outcomes) 4 0 + getD (a .outcomes) 5 0 + getD (a .outcomes) 6 0 + getD (a .outcomes) 7 0 + getD (a .outcomes) 8 0 + getD (a .outcomes) 9 0)
+  pub replaced : Fits w64 (t .replaced + (getD (a .outcomes) 1 0 + getD (a .outcomes) 2 0))
+  pub excluded : Fits w64 (t .excluded + (getD (a .outcomes) 3 0 + getD (a .outcomes) 4 0 + getD (a .outcomes) 5 0 + getD (a .outcomes) 6 0 + getD (a .outcomes) 7 0 + getD (a .outcomes) 8 0 + getD (a .outcomes) 9 0))
   pub methane : Fits w64 (t .methane + a .methane)
   pub destroyed : Fits w64 (t .destroyed + a .destroyed)
   pub uncombusted : Fits w64 (t .uncombusted + a .uncombusted)
 
 pub sums-fit : (t : Totals) (a : Account) → Room t a → Sums t a
 sums-fit t a x =
-    let c1 : getD (a .counts) 1 0 ≤ 35136 = x .count-most 1 in
-    let c2 : getD (a .counts) 2 0 ≤ 35136 = x .count-most 2 in
-    let c3 : getD (a .counts) 3 0 ≤ 35136 = x .count-most 3 in
-    let c4 : getD (a .counts) 4 0 ≤ 35136 = x .count-most 4 in
-    let c5 : getD (a .counts) 5 0 ≤ 35136 = x .count-most 5 in
-    let c6 : getD (a .counts) 6 0 ≤ 35136 = x .count-most 6 in
-    let c7 : getD (a .counts) 7 0 ≤ 35136 = x .count-most 7 in
-    let c8 : getD (a .counts) 8 0 ≤ 35136 = x .count-most 8 in
-    let c9 : getD (a .counts) 9 0 ≤ 35136 = x .count-most 9 in
+    let c1 : getD (a .outcomes) 1 0 ≤ 35136 = x .count-most 1 in
+    let c2 : getD (a .outcomes) 2 0 ≤ 35136 = x .count-most 2 in
+    let c3 : getD (a .outcomes) 3 0 ≤ 35136 = x .count-most 3 in
+    let c4 : getD (a .outcomes) 4 0 ≤ 35136 = x .count-most 4 in
+    let c5 : getD (a .outcomes) 5 0 ≤ 35136 = x .count-most 5 in
+    let c6 : getD (a .outcomes) 6 0 ≤ 35136 = x .count-most 6 in
+    let c7 : getD (a .outcomes) 7 0 ≤ 35136 = x .count-most 7 in
+    let c8 : getD (a .outcomes) 8 0 ≤ 35136 = x .count-most 8 in
+    let c9 : getD (a .outcomes) 9 0 ≤ 35136 = x .count-most 9 in
     let m = x .methane-most in
     let d = x .destroyed-most in
     let u = x .uncombusted-most in
@@ -124,23 +125,23 @@ module _ (l : Lent) (devices : ℕ) (x : Sound l devices) (d : ℕ) (h : d < dev
   unfolding recordsOf
   row-long = Series.row-long (l .series .flow) devices (l .intervals) d h (x .long .flow)
 
-  counts-are : (j : ℕ) → j < 10 → getD (accountOf (recordsOf l d) .counts) j 0 ≡ countIn l d j
+  pub counts-are : (j : ℕ) → j < 10 → getD (accountOf (recordsOf l d) .outcomes) j 0 ≡ countIn l d j
   unfolding accountOf countIn
   counts-are j z =
-      getD-build outcomes (countOf (intervalsOf (recordsOf l d)) (outcomeAt (recordsOf l d))) j 0 z
+      getD-build outcomeKinds (countOf (intervalsOf (recordsOf l d)) (outcomeAt (recordsOf l d))) j 0 z
       ∙ ap (λ (n : ℕ). countOf n (outcomeAt (recordsOf l d)) j) row-long
 
-  counted-are : countedIn l d ≡ getD (accountOf (recordsOf l d) .counts) 0 0 + getD (accountOf (recordsOf l d) .counts) 1 0 + getD (accountOf (recordsOf l d) .counts) 2 0
+  counted-are : countedIn l d ≡ getD (accountOf (recordsOf l d) .outcomes) 0 0 + getD (accountOf (recordsOf l d) .outcomes) 1 0 + getD (accountOf (recordsOf l d) .outcomes) 2 0
   unfolding countedIn
   counted-are = sym (ap₂ _+_ (ap₂ _+_ (counts-are 0 (omega arith)) (counts-are 1 (omega arith))) (counts-are 2 (omega arith)))
 
-  replaced-are : replacedIn l d ≡ getD (accountOf (recordsOf l d) .counts) 1 0 + getD (accountOf (recordsOf l d) .counts) 2 0
+  replaced-are : replacedIn l d ≡ getD (accountOf (recordsOf l d) .outcomes) 1 0 + getD (accountOf (recordsOf l d) .outcomes) 2 0
   unfolding replacedIn
   replaced-are = sym (ap₂ _+_ (counts-are 1 (omega arith)) (counts-are 2 (omega arith)))
 
-  excluded-are : excludedIn l d ≡ sumTo 7 (λ j. getD (accountOf (recordsOf l d) .counts) (3 + j) 0)
+  excluded-are : excludedIn l d ≡ sumTo 7 (λ j. getD (accountOf (recordsOf l d) .outcomes) (3 + j) 0)
   unfolding excludedIn
-  excluded-are = sumTo-ext 7 (λ j. countIn l d (3 + j)) (λ j. getD (accountOf (recordsOf l d) .counts) (3 + j) 0) (λ j z. sym (counts-are (3 + j) (omega arith)))
+  excluded-are = sumTo-ext 7 (λ j. countIn l d (3 + j)) (λ j. getD (accountOf (recordsOf l d) .outcomes) (3 + j) 0) (λ j z. sym (counts-are (3 + j) (omega arith)))
 
   -- the totals with one device more
   pub totals-more : totalsOf l (suc d) ≡ added (totalsOf l d) (accountOf (recordsOf l d))
@@ -165,13 +166,17 @@ module _ (l : Lent) (devices : ℕ) (x : Sound l devices) (d : ℕ) (h : d < dev
 
 -- ---- an account
 
-account-ten : (r : Records) → length (accountOf r .counts) ≡ 10
+pub account-ten : (r : Records) → length (accountOf r .outcomes) ≡ outcomeKinds
 unfolding accountOf
-account-ten r = length-build outcomes (countOf (intervalsOf r) (outcomeAt r))
+account-ten r = length-build outcomeKinds (countOf (intervalsOf r) (outcomeAt r))
 
-account-past : (r : Records) (j : ℕ) → 10 ≤ j → getD (accountOf r .counts) j 0 ≤ 35136
+-- and three sums of litres: thirteen numbers
+pub numbers-long : (a : Account) → length (a .outcomes) ≡ outcomeKinds → length (numbersOf a) ≡ accountSize
+numbers-long a e = length-append (a .outcomes) (a .methane ∷ a .destroyed ∷ a .uncombusted ∷ []) ∙ ap (λ (n : ℕ). n + 3) e
+
+account-past : (r : Records) (j : ℕ) → 10 ≤ j → getD (accountOf r .outcomes) j 0 ≤ 35136
 account-past r j h =
-    let z : getD (accountOf r .counts) j 0 ≡ 0 = List·getD-eq-default (accountOf r .counts) 0 (omega (arith, account-ten r)) in omega arith
+    let z : getD (accountOf r .outcomes) j 0 ≡ 0 = List·getD-eq-default (accountOf r .outcomes) 0 (omega (arith, account-ten r)) in omega arith
 
 account-most : (r : Records) → Right r
     → (accountOf r .methane ≤ deviceMost) × (accountOf r .destroyed ≤ accountOf r .methane) × (accountOf r .uncombusted ≤ accountOf r .methane)
@@ -216,13 +221,13 @@ module _ (l : Lent) (devices : ℕ) (x : Sound l devices) where
       small : d ≤ 16
       small = let z = x .few-devices in omega arith
 
-      ten : length (accountOf (recordsOf l d) .counts) ≡ 10
+      ten : length (accountOf (recordsOf l d) .outcomes) ≡ 10
       ten = account-ten (recordsOf l d)
 
-      inside : (j : ℕ) → j < 10 → getD (accountOf (recordsOf l d) .counts) j 0 ≤ 35136
+      inside : (j : ℕ) → j < 10 → getD (accountOf (recordsOf l d) .outcomes) j 0 ≤ 35136
       inside j z = subst (λ (v : ℕ). v ≤ 35136) (sym (counts-are l devices x d h j z)) (count-least d j h)
 
-      past : (j : ℕ) → 10 ≤ j → getD (accountOf (recordsOf l d) .counts) j 0 ≤ 35136
+      past : (j : ℕ) → 10 ≤ j → getD (accountOf (recordsOf l d) .outcomes) j 0 ≤ 35136
       past j z = account-past (recordsOf l d) j z
 
       methane : accountOf (recordsOf l d) .methane ≤ deviceMost

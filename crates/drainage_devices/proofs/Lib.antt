@@ -1,2 +1,4 @@
 pub mod Laws
 pub mod Loop
+pub mod Storing
+pub mod Given

@@ -2,15 +2,16 @@
 -- Assumes nothing.
 use Prim.Native.Nat.{ℕ, _+_, _*_, _≤_, _<_}
 use mathlib.Core.Path.{_≡_}
-use mathlib.Core.List.{List}
-use lib.ListN.{length, getD}
+use mathlib.Core.List.{List, [], _∷_, _++_}
+use lib.ListN.{length, getD, drop}
 use Rattle.protocol.specs.Ranges.{intervalsMost, devicesMost}
-use Rattle.rows.specs.Rows.{build, join, put}
+use Rattle.rows.specs.Rows.{build, join}
 use Rattle.columns.specs.Series.{Series, Checks, Long, ChecksLong, seriesPart, checksPart}
+use Rattle.drainage_outcomes.specs.Outcomes.{outcomeKinds}
 use Rattle.drainage_device.specs.Device.{Records, Right, outcomeAt, flowUsedAt, contentUsedAt, accountOf}
 use Rattle.drainage_device.specs.declared.Account.{Account}
 
--- the records of all devices: "Every series holds D rows of N entries, device 0 first"
+-- the records of all devices, device 0 first (rules 3.3 and 3.12)
 pub record Lent : Type 0 where
   pub intervals : ℕ
   pub kinds : List ℕ
@@ -26,11 +27,21 @@ recordsOf l d =
       checks = checksPart (l .checks) d;
     }
 
--- the three result rows
-pub record Rows : Type 0 where
+-- what a call gives besides its answer: the three result rows (rule 3.11) and the devices' accounts
+pub record Results : Type 0 where
   pub outcome : List ℕ
   pub flow : List ℕ
   pub content : List ℕ
+  pub accounts : List ℕ
+
+-- a device's account as numbers: how often each outcome comes (rule 8.6), then the litres of methane, those destroyed and
+-- those left uncombusted (rules 9.3 to 9.5)
+abbrev pub numbersOf : Account → List ℕ
+numbersOf a = a .outcomes ++ (a .methane ∷ a .destroyed ∷ a .uncombusted ∷ [])
+
+-- how many numbers that is
+abbrev pub accountSize : ℕ
+accountSize = outcomeKinds + 3
 
 -- one device's part of each
 unfoldable pub outcomePart : Lent → ℕ → List ℕ
@@ -42,10 +53,19 @@ flowPart l d = build (l .intervals) (flowUsedAt (recordsOf l d))
 unfoldable pub contentPart : Lent → ℕ → List ℕ
 contentPart l d = build (l .intervals) (contentUsedAt (recordsOf l d))
 
--- "for every device and interval": the rows of an accepted call, device 0 first
-unfoldable pub rowsOf : Lent → ℕ → Rows
-rowsOf l devices =
-    record { outcome = join devices (outcomePart l); flow = join devices (flowPart l); content = join devices (contentPart l) }
+unfoldable pub accountPart : Lent → ℕ → List ℕ
+accountPart l d = numbersOf (accountOf (recordsOf l d))
+
+-- rule 8.5: every entry of the rows is written, device 0 first; of the accounts those of the devices that there are, and what
+-- stands behind them stays
+unfoldable pub resultsOf : Lent → ℕ → Results → Results
+resultsOf l devices before =
+    record {
+      outcome = join devices (outcomePart l);
+      flow = join devices (flowPart l);
+      content = join devices (contentPart l);
+      accounts = join devices (accountPart l) ++ drop (devices * accountSize) (before .accounts);
+    }
 
 -- what the refusals leave of what is lent
 pub record Sound (l : Lent) (devices : ℕ) : Type 0 where
@@ -56,10 +76,3 @@ pub record Sound (l : Lent) (devices : ℕ) : Type 0 where
   pub roomy : ChecksLong (l .checks) devices
   pub long : Long (l .series) (devices * l .intervals)
   pub right : (d : ℕ) → d < devices → Right (recordsOf l d)
-
--- device d's part of the three rows written, the rest of them as it was, and its account
-pub record Written (l : Lent) (d : ℕ) (outcome flow content outcome′ flow′ content′ : List ℕ) (a : Account) : Type 0 where
-  pub outcome-row : outcome′ ≡ put outcome (d * l .intervals) (d * l .intervals + l .intervals) (outcomePart l d)
-  pub flow-row : flow′ ≡ put flow (d * l .intervals) (d * l .intervals + l .intervals) (flowPart l d)
-  pub content-row : content′ ≡ put content (d * l .intervals) (d * l .intervals + l .intervals) (contentPart l d)
-  pub account : a ≡ accountOf (recordsOf l d)

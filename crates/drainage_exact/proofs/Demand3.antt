@@ -1,12 +1,12 @@
 -- Demand 3: the reported tonnes are never above the exact reduction, and short of it by less than a tonne and the
--- promised grams. First over an interval's loss, the factor of unburnt methane and the grams, then with document 01's.
+-- promised grams. First over an interval's loss, the factor of unburnt methane and the grams, then with those of rule 10.4.
 -- Assumes nothing.
 use Prim.Native.Nat.{ℕ, _+_, _*_, _/_, _≤_, _<_}
-use mathlib.Core.Path.{_≡_, refl, ap₂, _∙_, subst}
+use mathlib.Core.Path.{_≡_, refl, ap₂, _∙_, subst, subst₂}
 use native.Mathlib.Nat.{mul-pos, mul-comm, one-mul}
 use native.Mathlib.Omega.{arith}
 use lib.IntN.{ℤ, pos}
-use Rattle.rows.specs.Rows.{sumTo}
+use Rattle.rows.specs.Rows.{sumTo, pick}
 use Rattle.rows.proofs.Sums.{sumTo-add, sumTo-mul, sumTo-const}
 use Rattle.protocol.specs.Numbers.{protocol, methaneMg}
 use Rattle.protocol.specs.Ranges.{kelvinOf, contentMost}
@@ -15,7 +15,7 @@ use Rattle.balance.specs.Balance.{destroyedOf, uncombustedOf, baselineMg, carbo
 use Rattle.protocol.proofs.Integers.{is-sub}
 use Rattle.balance.proofs.Laws.{reduction-ext}
 use Rattle.drainage_exact.specs.Fraction.{Fraction, over, whole, _-ᶠ_, _*ᶠ_, sumᶠ}
-use Rattle.drainage_exact.specs.Exact.{Used, Sound, Fair, exactLitres, exactMethane, exactQ, exactDeviceMg, exactReduction, reportedQ, reportedTonnes, countedOf, countedAll, intervalMg, deviceMg, promised}
+use Rattle.drainage_exact.specs.Exact.{Used, Possible, Fair, exactLitres, exactMethane, exactQ, exactDeviceMg, exactReduction, reportedQ, reportedTonnes, intervalMg, deviceMg, promised}
 use Rattle.drainage_exact.proofs.Near.{Near, near-all, near-minus, near-fair}
 use Rattle.drainage_exact.proofs.Close.{Close, close-row, close-interval}
 use Rattle.drainage_exact.proofs.Device.{Covers, device-near}
@@ -59,7 +59,14 @@ module _ {u w interval device : ℕ} (v : Covers u w interval device) (devices :
   unfolding reductionOf
   fair = near-fair _ near (is-sub _ _)
 
--- ---- document 01
+-- ---- the protocol's numbers
+
+-- the counted intervals of device d, and of all devices
+unfoldable pub countedOf : Used → ℕ → ℕ
+countedOf u d = sumTo (u .intervals) (λ k. pick (u .counted d k) 1 0)
+
+unfoldable pub countedAll : Used → ℕ
+countedAll u = sumTo (u .devices) (countedOf u)
 
 -- at most 2 litres an interval, 14,007 mg a litre, 25 grams an interval and 13 a device
 covers : Covers 1 methaneMg intervalMg deviceMg
@@ -79,7 +86,7 @@ interval-close flow content temp press h l =
     bottom : ℕ
     bottom = kelvinOf temp * protocol .pascal
 
-q-close : (u : Used) → Sound u → (d : ℕ) → d < u .devices → Close 1 (exactQ u d) (reportedQ u d) (countedOf u d)
+q-close : (u : Used) → Possible u → (d : ℕ) → d < u .devices → Close 1 (exactQ u d) (reportedQ u d) (countedOf u d)
 unfolding exactQ reportedQ countedOf
 q-close u s d h =
     close-row 1 (u .intervals) (u .counted d)
@@ -87,18 +94,18 @@ q-close u s d h =
     (λ k. methaneLitres (u .flow d k) (u .content d k) (u .temp d k) (u .press d k))
     (λ k l c. interval-close (u .flow d k) (u .content d k) (u .temp d k) (u .press d k) (s .warm d k h l c) (s .content-most d k h l c))
 
--- demand 3 as document 01 states it
-pub demand-3 : (u : Used) → Sound u → Fair (exactReduction u) (reportedTonnes u) (promised u)
+-- rules 10.3 and 10.4
+pub demand-3 : (u : Used) → Possible u → Fair (exactReduction u) (reportedTonnes u) (promised (countedAll u) (u .devices))
 unfolding exactReduction reportedTonnes promised countedAll reductionAll baselineAll carbonDioxideAll uncombustedAll baselineMg uncombustedMg
 demand-3 u s =
     fair covers (u .devices) (u .kind) (exactQ u) (reportedQ u) (countedOf u) (fuelMg (u .fuels) (u .quantity) (u .factor)) (q-close u s)
 
--- for a caller whose litres equal the reported ones device by device
-pub demand-3-of : (u : Used) → Sound u → (kind q : ℕ → ℕ) → ((d : ℕ) → d < u .devices → u .kind d ≡ kind d)
-    → ((d : ℕ) → d < u .devices → reportedQ u d ≡ q d)
-    → Fair (exactReduction u) (tonnesOf (reductionAll (u .devices) kind q (fuelMg (u .fuels) (u .quantity) (u .factor)))) (promised u)
+-- for a caller whose litres equal the reported ones device by device, and who has counted the same device-intervals
+pub demand-3-of : (u : Used) → Possible u → (kind q : ℕ → ℕ) (counted : ℕ) → ((d : ℕ) → d < u .devices → u .kind d ≡ kind d)
+    → ((d : ℕ) → d < u .devices → reportedQ u d ≡ q d) → countedAll u ≡ counted
+    → Fair (exactReduction u) (tonnesOf (reductionAll (u .devices) kind q (fuelMg (u .fuels) (u .quantity) (u .factor)))) (promised counted (u .devices))
 unfolding reportedTonnes
-demand-3-of u s kind q h l =
-    subst (λ (z : ℤ). Fair (exactReduction u) (tonnesOf z) (promised u))
-    (reduction-ext (u .devices) (u .kind) kind (reportedQ u) q (fuelMg (u .fuels) (u .quantity) (u .factor)) h l)
+demand-3-of u s kind q counted h l e =
+    subst₂ (λ (z : ℤ) (n : ℕ). Fair (exactReduction u) (tonnesOf z) (promised n (u .devices)))
+    (reduction-ext (u .devices) (u .kind) kind (reportedQ u) q (fuelMg (u .fuels) (u .quantity) (u .factor)) h l) e
     (demand-3 u s)

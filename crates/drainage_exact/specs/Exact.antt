@@ -1,5 +1,5 @@
--- rule 10.1: the exact reduction, equations 1 to 3 over the values used and nothing rounded, beside what is reported of
--- the same values, and the distance that may lie between the two.
+-- The exact reduction (rule 10.1), beside what is reported of the same values, and the distance that may lie between
+-- the two (rules 10.3 and 10.4).
 -- Assumes nothing.
 use Prim.Native.Nat.{ℕ, zero, _+_, _-_, _*_, _≤_, _<_}
 use mathlib.Core.Path.{_≡_, refl}
@@ -11,10 +11,10 @@ use Rattle.protocol.specs.Kinds.{thousandthsOf}
 use Rattle.protocol.specs.Ranges.{kelvinOf, contentMost}
 use Rattle.volume.specs.Volume.{litresOf, methaneOf, methaneLitres}
 use Rattle.balance.specs.Balance.{fuelMg, reductionOf, reductionAll, baselineAll, carbonDioxideAll, uncombustedAll, baselineMg, carbonDioxideMg, uncombustedMg, destroyedOf, uncombustedOf, tonnesOf, tonne}
-use Rattle.drainage_exact.specs.Fraction.{Fraction, Proper, over, whole, _-ᶠ_, _*ᶠ_, sumᶠ, _≤ᶠ_, _‹ᶠ_}
+use Rattle.drainage_exact.specs.Fraction.{Fraction, Proper, over, whole, _-ᶠ_, _*ᶠ_, sumᶠ, _≤ᶠ_, _<ᶠ_}
 
--- rule 10.1: the values used. Of device d in interval k: whether the interval is counted, flow, CH4 content,
--- temperature and pressure, in the units of rule 3.3; each device's kind; the fuel lines, in those of rule 3.10.
+-- The values used: of device d in interval k, whether the interval is counted, flow, CH4 content, temperature and
+-- pressure, in the units of rule 3.3; each device's kind; the fuel lines.
 pub record Used : Type 0 where
   pub intervals : ℕ
   pub devices : ℕ
@@ -29,41 +29,41 @@ pub record Used : Type 0 where
   pub factor : ℕ → ℕ
 
 -- what accepted records give: a counted interval's temperature is above absolute zero and its content at most 100 %
-pub record Sound (u : Used) : Type 0 where
+pub record Possible (u : Used) : Type 0 where
   pub warm : (d k : ℕ) → d < u .devices → k < u .intervals → u .counted d k ≡ true → 0 < kelvinOf (u .temp d k)
   pub content-most : (d k : ℕ) → d < u .devices → k < u .intervals → u .counted d k ≡ true → u .content d k ≤ contentMost
 
 -- ---- exact
 
--- rule 10.1: litres at standard conditions, rule 9.1 without rounding (equation 2)
+-- rule 9.1 without its rounding: litres at standard conditions
 unfoldable pub exactLitres : ℕ → ℤ → ℕ → Fraction
 exactLitres flow temp press =
     over (flow * 100 * protocol .kelvin * press) (kelvinOf temp * protocol .pascal)
 
--- rule 10.1: their methane, rule 9.2 without rounding
+-- rule 9.2 without its rounding
 unfoldable pub exactMethane : ℕ → ℕ → ℤ → ℕ → Fraction
 exactMethane flow content temp press = exactLitres flow temp press *ᶠ over content 10000
 
--- rule 10.1: X, the sum over the counted intervals of device d
+-- rule 9.3: over the counted intervals of device d
 unfoldable pub exactQ : Used → ℕ → Fraction
 exactQ u d =
     sumᶠ (u .intervals) (λ k.
     pick (u .counted d k) (exactMethane (u .flow d k) (u .content d k) (u .temp d k) (u .press d k)) (whole (pos 0)))
 
--- rule 10.1: the destroyed litres, rule 9.4 without rounding
+-- rule 9.4 without its rounding
 unfoldable pub exactDestroyed : ℕ → Fraction → Fraction
 exactDestroyed kind q = q *ᶠ over (thousandthsOf kind) 1000
 
--- rule 10.1: the uncombusted litres, rule 9.5 without rounding
+-- rule 9.5 without its rounding
 unfoldable pub exactUncombusted : ℕ → Fraction → Fraction
 exactUncombusted kind q = q *ᶠ over (1000 - thousandthsOf kind) 1000
 
--- rule 10.1: mg of so many litres of methane that are not burnt, at `unburnt` mg a litre, for which U is put in below.
--- Of X this is the baseline (equation 3), of the uncombusted litres it is uncombusted mg.
+-- mg of so many litres of methane that are not burnt, at `unburnt` mg a litre. Of Q this is the baseline (rule 9.7),
+-- of the uncombusted litres it is uncombusted mg (rule 9.9).
 unfoldable pub exactUnburntMg : ℕ → Fraction → Fraction
 exactUnburntMg unburnt litres = whole (pos unburnt) *ᶠ litres
 
--- rule 10.1: mg of CO2 of the destroyed litres, C for each, rule 9.8 without rounding
+-- rule 9.8 without its rounding
 unfoldable pub exactCarbonMg : Fraction → Fraction
 exactCarbonMg destroyed = over carbonMg (protocol .«carbon_under») *ᶠ destroyed
 
@@ -72,7 +72,7 @@ unfoldable pub exactDeviceMg : ℕ → ℕ → Fraction → Fraction
 exactDeviceMg unburnt kind q =
     exactUnburntMg unburnt q -ᶠ exactCarbonMg (exactDestroyed kind q) -ᶠ exactUnburntMg unburnt (exactUncombusted kind q)
 
--- rule 10.1: the exact reduction in mg, the sum over devices less the fuel, once (equation 1)
+-- rule 10.1: over all devices, less the fuel, in mg
 unfoldable pub exactReduction : Used → Fraction
 exactReduction u =
     sumᶠ (u .devices) (λ d. exactDeviceMg methaneMg (u .kind d) (exactQ u d))
@@ -93,14 +93,7 @@ reportedTonnes u =
 
 -- ---- the distance between them
 
--- the counted intervals of device d, and of all devices
-unfoldable pub countedOf : Used → ℕ → ℕ
-countedOf u d = sumTo (u .intervals) (λ k. pick (u .counted d k) 1 0)
-
-unfoldable pub countedAll : Used → ℕ
-countedAll u = sumTo (u .devices) (countedOf u)
-
--- rule 10.4: 25 g for each counted device-interval, in mg
+-- rule 10.4: 25 grams for each counted device-interval, in mg
 abbrev pub intervalMg : ℕ
 intervalMg = 25000
 
@@ -108,19 +101,18 @@ intervalMg = 25000
 abbrev pub deviceMg : ℕ
 deviceMg = 13000
 
--- rule 10.4: both, over the whole record
-unfoldable pub promised : Used → ℕ
-promised u = intervalMg * countedAll u + deviceMg * u .devices
+-- so much of so many counted device-intervals and so many devices
+unfoldable pub promised : ℕ → ℕ → ℕ
+promised counted devices = intervalMg * counted + deviceMg * devices
 
--- t tonnes beside x mg, a proper fraction (rule 10.2): rule 10.3, never above it; rule 10.4, short of it by less than a
--- tonne and the distance
+-- t tonnes are never above x mg (rule 10.3), and short of it by less than a tonne and the distance (rule 10.4)
 pub record Fair (x : Fraction) (t : ℤ) (distance : ℕ) : Type 0 where
   pub proper : Proper x
   pub never-above : whole (t *ℤ pos tonne) ≤ᶠ x
-  pub short : x ‹ᶠ whole (t *ℤ pos tonne +ℤ pos (tonne + distance))
+  pub short : x <ᶠ whole (t *ℤ pos tonne +ℤ pos (tonne + distance))
 
--- rule 14.1: the worked example, one interval of an enclosed flare at reference conditions, 3,000 m3 of pure methane,
--- and 700 kg of CO2 from fuel. It gives 35,635,658,750 mg to the last digit (rule 14.3), and 35 tonnes (rule 14.2).
+-- rule 14.1: one interval of an enclosed flare at standard conditions, 3,000 m3 of pure methane, and 700 kg of CO2 from
+-- fuel: 35,635,658,750 mg to the last digit (rule 14.3), 35 tonnes
 example : Used
 example =
     record {
@@ -149,6 +141,6 @@ example-tonnes : reportedTonnes example ≡ pos 35
 unfolding example reportedTonnes reportedQ methaneLitres methaneOf litresOf tonnesOf reductionAll reductionOf baselineAll carbonDioxideAll uncombustedAll baselineMg carbonDioxideMg uncombustedMg destroyedOf uncombustedOf fuelMg
 example-tonnes = refl
 
-example-distance : promised example ≡ intervalMg + deviceMg
-unfolding example promised countedAll countedOf
+example-distance : promised 1 1 ≡ intervalMg + deviceMg
+unfolding promised
 example-distance = refl

@@ -1,4 +1,4 @@
--- rule 10.2: fractions of whole numbers of any size, added and compared by multiplying across.
+-- Fractions (rule 10.2): added and compared by multiplying across, numerator and denominator without a limit.
 -- Assumes nothing.
 use Prim.Native.Nat.{ℕ, zero, suc, _*_, _<_}
 use mathlib.Core.Path.{_≡_, refl}
@@ -23,8 +23,7 @@ whole z = record { num = z; den = 1 }
 
 infixl 6 _+ᶠ_ _-ᶠ_
 infixl 7 _*ᶠ_
-infix 4 _≤ᶠ_ _‹ᶠ_
--- rule 10.2: added and subtracted by multiplying across
+infix 4 _≤ᶠ_ _<ᶠ_
 abbrev pub _+ᶠ_ : Fraction → Fraction → Fraction
 x +ᶠ y = record { num = x .num *ℤ pos (y .den) +ℤ y .num *ℤ pos (x .den); den = x .den * y .den }
 
@@ -43,8 +42,8 @@ sumᶠ (suc n) f = sumᶠ n f +ᶠ f n
 pub record _≤ᶠ_ (x y : Fraction) : Type 0 where
   pub across : (x .num *ℤ pos (y .den)) ≤ℤ (y .num *ℤ pos (x .den))
 
--- rule 10.2: x is below y, of two proper fractions
-pub record _‹ᶠ_ (x y : Fraction) : Type 0 where
+-- x is below y, of two proper fractions
+pub record _<ᶠ_ (x y : Fraction) : Type 0 where
   pub across : (x .num *ℤ pos (y .den)) <ℤ (y .num *ℤ pos (x .den))
 
 -- 1/2 + 1/3 is 5/6, and 1/2 - 1/3 is 1/6
@@ -61,5 +60,5 @@ minus-third = refl
 not-above : record { num = negsuc 1; den = 6 } ≤ᶠ record { num = negsuc 0; den = 3 }
 not-above = record { across = record { le = tt } }
 
-below-zero : record { num = negsuc 1; den = 6 } ‹ᶠ whole (pos 0)
+below-zero : record { num = negsuc 1; den = 6 } <ᶠ whole (pos 0)
 below-zero = record { across = record { lt = tt } }

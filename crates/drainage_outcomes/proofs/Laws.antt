@@ -19,7 +19,7 @@ use Rattle.volume.proofs.Laws.{methane-litres-most, no-flow}
 use Rattle.drainage_runs.specs.Runs.{tooLong, notWhole}
 use Rattle.drainage_runs.specs.Private.{excluding}
 use Rattle.drainage_outcomes.specs.declared.Sums.{Sums}
-use Rattle.drainage_outcomes.specs.Outcomes.{outcomes, outcomeOf, allMeasured, counted, litresFor, heldOutcome, entryOf, entryAt, sumsOf, Held, Holds, Ready, ReadyAt, Finished}
+use Rattle.drainage_outcomes.specs.Outcomes.{outcomeKinds, outcomeOf, allMeasured, counted, litresFor, heldOutcome, entryOf, entryAt, sumsOf, Held, Holds, Ready, ReadyAt, Finished}
 
 clash : {X : Type 0} {b : Bool} → b ≡ true → b ≡ false → X
 clash p q = let z : _≡_ {A = ℕ} 0 1 = cc in absurd (let w : ⊥ = omega arith in w)
@@ -225,23 +225,23 @@ pub methane-most : (h : Held) (n : ℕ) → ReadyAt h n → sumsOf n (entryAt h)
 unfolding sumsOf
 methane-most h n x = methane-to h n x n (omega arith)
 
--- "ten counts, one for each outcome, adding to N"
-pub counts-total : (h : Held) (n : ℕ) → ReadyAt h n → sumTo outcomes (countOf n (λ k. entryAt h k .outcome)) ≡ n
+-- rule 8.6: the ten counts add to N
+pub counts-total : (h : Held) (n : ℕ) → ReadyAt h n → sumTo outcomeKinds (countOf n (λ k. entryAt h k .outcome)) ≡ n
 counts-total h n x = counts-add n 10 (λ k. entryAt h k .outcome) (outcome-of-ten h n x)
 
 -- the ten counts, read off the sums
-pub count-at : (h : Held) (n j : ℕ) → j < outcomes → getD (sumsOf n (entryAt h) .counts) j 0 ≡ countOf n (λ k. entryAt h k .outcome) j
+pub count-at : (h : Held) (n j : ℕ) → j < outcomeKinds → getD (sumsOf n (entryAt h) .outcomes) j 0 ≡ countOf n (λ k. entryAt h k .outcome) j
 unfolding sumsOf
-count-at h n j l = getD-build outcomes (countOf n (λ k. entryAt h k .outcome)) j 0 l
+count-at h n j l = getD-build outcomeKinds (countOf n (λ k. entryAt h k .outcome)) j 0 l
 
-pub counts-ten : (h : Held) (n : ℕ) → length (sumsOf n (entryAt h) .counts) ≡ outcomes
+pub counts-ten : (h : Held) (n : ℕ) → length (sumsOf n (entryAt h) .outcomes) ≡ outcomeKinds
 unfolding sumsOf
-counts-ten h n = length-build outcomes (countOf n (λ k. entryAt h k .outcome))
+counts-ten h n = length-build outcomeKinds (countOf n (λ k. entryAt h k .outcome))
 
--- "ten counts, one for each outcome, adding to N", of the list itself
-pub counts-sum : (h : Held) (n : ℕ) → ReadyAt h n → sumTo outcomes (λ j. getD (sumsOf n (entryAt h) .counts) j 0) ≡ n
+-- and so does the list itself
+pub counts-sum : (h : Held) (n : ℕ) → ReadyAt h n → sumTo outcomeKinds (λ j. getD (sumsOf n (entryAt h) .outcomes) j 0) ≡ n
 counts-sum h n x =
-    sumTo-ext outcomes (λ j. getD (sumsOf n (entryAt h) .counts) j 0) (countOf n (λ k. entryAt h k .outcome)) (λ j l. count-at h n j l)
+    sumTo-ext outcomeKinds (λ j. getD (sumsOf n (entryAt h) .outcomes) j 0) (countOf n (λ k. entryAt h k .outcome)) (λ j l. count-at h n j l)
     ∙ counts-total h n x
 
 -- a counted interval's used values are in range

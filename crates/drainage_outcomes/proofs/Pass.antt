@@ -22,7 +22,7 @@ use Rattle.columns.specs.Series.{Within}
 use Rattle.columns.proofs.Laws.{within}
 use Rattle.volume.specs.Volume.{methaneLitres, Inside, litresMost}
 use Rattle.drainage_outcomes.specs.declared.Entry.{Entry}
-use Rattle.drainage_outcomes.specs.Outcomes.{outcomes, allMeasured, entryOf, entryAt, sumsOf, Held, Ready, ReadyAt, Finished}
+use Rattle.drainage_outcomes.specs.Outcomes.{outcomeKinds, allMeasured, entryOf, entryAt, sumsOf, Held, Ready, ReadyAt, Finished}
 use Rattle.drainage_outcomes.proofs.Laws.{outcomeFor, measured-outcome, counted-inside, counted-entry, outcome-of-ten, litres-of-entry, methane-to}
 
 pub record Going (h : Held) (n : ℕ) (old o f c counts : List ℕ) (methane i : ℕ) : Type 0 where
@@ -216,7 +216,7 @@ module _ {h : Held} {n : ℕ} {old o f c counts : List ℕ} {methane i : ℕ} (x
       built : (base : List ℕ) (g : ℕ → ℕ) → length base ≡ n → length (build i g ++ drop i base) ≡ n
       built base g e = let w : i ≤ n = x .within in simp (length-append, length-build, length-drop) (omega arith)
 
-  pub going-all : n ≤ i → Finished h o f c (record { counts = counts; methane = methane })
+  pub going-all : n ≤ i → Finished h o f c (record { outcomes = counts; methane = methane })
   unfolding sumsOf
   going-all l =
       let size : length (h .series .flow) ≡ n = x .ready .long .flow in
@@ -225,13 +225,13 @@ module _ {h : Held} {n : ℕ} {old o f c counts : List ℕ} {methane i : ℕ} (x
         outcome-row = done old (λ k. entryAt h k .outcome) o at (x .outcome-row) (x .old-length ∙ sym size);
         flow-row = done (h .flow-held) (λ k. entryAt h k .flow) f at (x .flow-row) (x .ready .flow-rows ∙ sym size);
         content-row = done (h .content-held) (λ k. entryAt h k .content) c at (x .content-row) (x .ready .content-rows ∙ sym size);
-        sums = λ t. record { counts = tens at t; methane = (x .sum ∙ ap (λ (m : ℕ). sumTo m (λ k. entryAt h k .litres)) at) t };
+        sums = λ t. record { outcomes = tens at t; methane = (x .sum ∙ ap (λ (m : ℕ). sumTo m (λ k. entryAt h k .litres)) at) t };
       }
     where
       done : (base : List ℕ) (g : ℕ → ℕ) (row : List ℕ) → i ≡ length (h .series .flow) → row ≡ build i g ++ drop i base → length base ≡ length (h .series .flow) → row ≡ build (length (h .series .flow)) g
       done base g row at e s = e ∙ ap (λ (m : ℕ). build m g ++ drop m base) at ∙ build-done (length (h .series .flow)) g base s
 
-      tens : i ≡ length (h .series .flow) → counts ≡ build outcomes (countOf (length (h .series .flow)) (λ k. entryAt h k .outcome))
+      tens : i ≡ length (h .series .flow) → counts ≡ build outcomeKinds (countOf (length (h .series .flow)) (λ k. entryAt h k .outcome))
       tens at =
           ext-getD 0 counts (build 10 (countOf (length (h .series .flow)) (λ k. entryAt h k .outcome)))
           (x .ten ∙ sym (length-build 10 (countOf (length (h .series .flow)) (λ k. entryAt h k .outcome))))

@@ -16,9 +16,9 @@ use Rattle.drainage_runs.specs.Private.{excluding}
 use Rattle.drainage_outcomes.specs.declared.Entry.{Entry}
 use Rattle.drainage_outcomes.specs.declared.Sums.{Sums}
 
--- how many outcomes there are, from 0: "ten counts, one for each outcome"
-abbrev pub outcomes : ℕ
-outcomes = 10
+-- how many outcomes there are, from 0 (rule 8.1)
+abbrev pub outcomeKinds : ℕ
+outcomeKinds = 10
 
 -- Rule 8.1: the first line that applies, from top to bottom. `lacking` is that temperature or pressure is missing. `byFlow` is what a
 -- missing flow comes to: 1 where it is replaced, or tooLong or notWhole; `byContent` what a missing CH4 content does, 2 or these.
@@ -76,10 +76,10 @@ entryAt h i =
     entryOf (getD (h .series .flow) i mark) (getD (h .series .content) i mark) (getD (h .series .temp) i (pos 0)) (getD (h .series .press) i 0) (getD (h .series .status) i 0)
     (getD (h .flow-held) i mark) (getD (h .content-held) i mark)
 
--- each count is the number of intervals with that outcome, beside the sum of their litres
+-- rule 8.6: how many intervals have each outcome, beside the sum of their litres
 unfoldable pub sumsOf : ℕ → (ℕ → Entry) → Sums
 sumsOf n entry =
-    record { counts = build outcomes (countOf n (λ i. entry i .outcome)); methane = sumTo n (λ i. entry i .litres) }
+    record { outcomes = build outcomeKinds (countOf n (λ i. entry i .outcome)); methane = sumTo n (λ i. entry i .litres) }
 
 -- what is held for a reading: a value up to b, or one of the two outcomes that exclude a missing reading
 pub record Holds (reading held b : ℕ) : Type 0 where

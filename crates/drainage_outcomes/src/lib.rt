@@ -21,6 +21,9 @@ ghost use Rattle.drainage_outcomes.specs.Outcomes.{
 use drainage_runs::EXCLUDING;
 use protocol::MISSING;
 
+// How many outcomes there are.
+pub const OUTCOMES: usize = 10;
+
 pub struct Entry {
     pub outcome: u8,
     pub flow: u16,
@@ -29,7 +32,7 @@ pub struct Entry {
 }
 
 pub struct Sums {
-    pub counts: [u64; 10],
+    pub outcomes: [u64; OUTCOMES],
     pub methane: u64,
 }
 
@@ -165,20 +168,20 @@ pub fn finish(
     temp: &[i16],
     press: &[u32],
     status: &[u8],
-    outcomes: &mut [u8],
+    outcome: &mut [u8],
     flow_used: &mut [u16],
     content_used: &mut [u16],
 ) -> Sums
     requires { ⌜ ReadyAt
         (record { series = seriesNow flow content temp press status; flow-held = now «flow_used»; content-held = now «content_used» })
         (length (now flow))
-        × (length (now outcomes) ≡ length (now flow)) ⌝ }
+        × (length (now outcome) ≡ length (now flow)) ⌝ }
     ensures { λ r. ⌜ Finished
         (record { series = seriesAt flow content temp press status; flow-held = now («flow_used» .entry); content-held = now («content_used» .entry) })
-        (now (outcomes .exit)) (now («flow_used» .exit)) (now («content_used» .exit)) r ⌝ }
+        (now (outcome .exit)) (now («flow_used» .exit)) (now («content_used» .exit)) r ⌝ }
 {
     let n = flow.len();
-    let mut counts = [0u64; 10];
+    let mut outcomes = [0u64; OUTCOMES];
     let mut methane = 0;
     let mut i = 0;
     while i < n {
@@ -192,21 +195,21 @@ pub fn finish(
         if all_measured(f, c, t, p, code) {
             // The commonest interval: its values stand in the rows already.
             let litres = volume::methane_litres(f_held, c_held, t, p);
-            outcomes[i] = 0;
-            counts[0] += 1;
+            outcome[i] = 0;
+            outcomes[0] += 1;
             methane = methane + litres;
             i += 1;
         } else {
             let e = settle(f, c, t, p, code, f_held, c_held);
             let o = e.outcome;
-            outcomes[i] = o;
+            outcome[i] = o;
             flow_used[i] = e.flow;
             content_used[i] = e.content;
             let k = o as usize;
-            counts[k] += 1;
+            outcomes[k] += 1;
             methane = methane + e.litres;
             i += 1;
         }
     }
-    Sums { counts, methane }
+    Sums { outcomes, methane }
 }

@@ -8,7 +8,7 @@ use lib.Dec.{leb}
 use lib.IntN.{ℤ, pos}
 use borrow.Author.Tests.{leb-false}
 use Rattle.rows.specs.Rows.{pick}
-use lib.ListN.{length, take, drop, length-append, take-append-drop}
+use lib.ListN.{length, take, drop, length-append, take-append-drop, replicate}
 use lib.Seq.{length-take-le}
 use Rattle.text.specs.Bytes.{bytes}
 use Rattle.text.specs.Line.{lineOf}
@@ -27,11 +27,12 @@ use Rattle.drainage_judge.specs.declared.Refusal.{Refusal}
 use Rattle.columns.specs.Series.{seriesTake, checksTake, fuelTake}
 use Rattle.drainage_judge.specs.Call.{Call}
 use Rattle.drainage_judge.specs.Steps.{judged}
-use Rattle.drainage_devices.specs.Devices as Devices
-use Rattle.drainage.specs.Promise.{Settled, answerBy, rowsBy}
+use Rattle.protocol.specs.Ranges.{devicesMost}
+use Rattle.drainage_devices.specs.Devices.{Results, accountSize}
+use Rattle.drainage.specs.Promise.{Settled, answerBy, resultsBy}
 use Rattle.drainage_record_form.specs.Rows.{Rows, lesser}
 use Rattle.drainage_record.specs.declared.Header.{Header}
-use Rattle.drainage_report.specs.Quantified.{Quantified, partOf, partsOf, putBack, callOf, answerTo, partsAfter, resultsAfter}
+use Rattle.drainage_report.specs.Quantified.{ResultRows, Quantified, partOf, partsOf, putBack, callOf, answerTo, partsAfter, resultsAfter}
 use Rattle.drainage_report.specs.Report.{refusalText, printed}
 
 -- No line with a number of 64 bits is longer than its key and 21 bytes.
@@ -107,15 +108,18 @@ lesser-first a b r e = le-of (leb a b) refl
     le-of true h = omega (arith, e ∙ ap (λ (x : Bool). pick x a b) h)
     le-of false h = omega (arith, e ∙ ap (λ (x : Bool). pick x a b) h, leb-false a b h)
 
-module _ (h : Header) (r : Rows) (s : Devices.Rows) (o p q : ℕ)
+module _ (h : Header) (r : Rows) (s : ResultRows) (o p q : ℕ)
     (eo : o ≡ partOf (h .devices * h .intervals) (s .outcome))
     (ep : p ≡ partOf (h .devices * h .intervals) (s .flow))
     (eq : q ≡ partOf (h .devices * h .intervals) (s .content)) where
-  abbrev parts : Devices.Rows
-  parts = record { outcome = take o (s .outcome); flow = take p (s .flow); content = take q (s .content) }
+  abbrev none : List ℕ
+  none = replicate (devicesMost * accountSize) 0
+
+  abbrev parts : Results
+  parts = record { outcome = take o (s .outcome); flow = take p (s .flow); content = take q (s .content); accounts = none }
 
   parts-are : parts ≡ partsOf (h .devices * h .intervals) s
-  parts-are = λ i. record { outcome = take (eo i) (s .outcome); flow = take (ep i) (s .flow); content = take (eq i) (s .content) }
+  parts-are = λ i. record { outcome = take (eo i) (s .outcome); flow = take (ep i) (s .flow); content = take (eq i) (s .content); accounts = none }
 
   as-long : (row : List ℕ) (k : ℕ) → k ≡ partOf (h .devices * h .intervals) row → length (take k row) ≡ partOf (h .devices * h .intervals) row
   as-long row k e = length-take-le k row (lesser-first (length row) (h .devices * h .intervals) k e) ∙ e
@@ -124,7 +128,7 @@ module _ (h : Header) (r : Rows) (s : Devices.Rows) (o p q : ℕ)
   unfolding callOf
   call-is = λ i. callWith h r (as-long (s .outcome) o eo i) (as-long (s .flow) p ep i) (as-long (s .content) q eq i)
 
-  pub quantified-is : (after : Devices.Rows) (a : Answer)
+  pub quantified-is : (after : Results) (a : Answer)
       → Settled (callWith h r (length (take o (s .outcome))) (length (take p (s .flow))) (length (take q (s .content)))) parts after a
       → Quantified h r s
       (record {
@@ -138,7 +142,7 @@ module _ (h : Header) (r : Rows) (s : Devices.Rows) (o p q : ℕ)
       record {
         answer = x .answer ∙ ap (λ (c : Call). answerBy (judged c) c) call-is;
         results = back ∙ ap (putBack (h .devices * h .intervals) s)
-            (x .rows ∙ ap (λ (c : Call). rowsBy (judged c) c parts) call-is ∙ ap (rowsBy (judged (callOf h r s)) (callOf h r s)) parts-are);
+            (x .results ∙ ap (λ (c : Call). resultsBy (judged c) c parts) call-is ∙ ap (resultsBy (judged (callOf h r s)) (callOf h r s)) parts-are);
       }
     where
       back : record {

@@ -6,7 +6,6 @@ use mathlib.Core.List.{List, _++_}
 use native.Mathlib.Omega.{arith}
 use lib.ListN.{length, take, drop}
 use Rattle.text.specs.Answer.{Leads}
-use Rattle.drainage_devices.specs.Devices as Devices
 use Rattle.drainage_record_form.specs.Rows.{Rows, roomOf, lesser}
 use Rattle.drainage_record.specs.Read.{ReadRight}
 use Rattle.drainage_record.specs.declared.ReadAnswer.{ReadAnswer}

@@ -19,7 +19,6 @@ use Rattle.columns.proofs.Laws.{each-as-long}
 use Rattle.drainage_judge.specs.Call.{Call}
 use Rattle.drainage_judge.specs.Steps.{judged}
 use Rattle.drainage_judge.proofs.Laws.{within-most}
-use Rattle.drainage_devices.specs.Devices as Devices
 use Rattle.drainage.specs.Promise.{answerBy, Settled}
 use Rattle.drainage.proofs.Settling.{settled-call}
 use Rattle.drainage.specs.declared.Answer.{Answer}
@@ -35,7 +34,7 @@ use Rattle.drainage_record.specs.declared.Header.{Header}
 use Rattle.drainage_record.specs.declared.ReadAnswer.{ReadAnswer}
 use Rattle.drainage_record.specs.declared.ReadAnswer.the-variants as ReadAnswer
 use Rattle.drainage_record.proofs.ReadAnswer as ReadAnswerType
-use Rattle.drainage_report.specs.Quantified.{Ready, Quantified, partOf, partsOf, partsAfter, callOf, answerTo, resultsAfter}
+use Rattle.drainage_report.specs.Quantified.{Roomy, ResultRows, Quantified, partOf, partsOf, partsAfter, callOf, answerTo, resultsAfter}
 use Rattle.drainage_report.specs.Report.{refusalText, printed, Lent, readerRows, outputOf, resultsOf, AsLong, Whatever, Reported}
 use Rattle.drainage_report.proofs.Laws.{lesser-first}
 
@@ -57,8 +56,8 @@ room-first a b c d e m h =
     let t : m ≤ lesser d e = omega (arith, s, lesser-second c (lesser d e)) in
     (x, y, z, omega (arith, t, lesser-first d e _ refl), omega (arith, t, lesser-second d e))
 
-pub roomy : (r : Rows) (m : ℕ) → m ≤ roomOf r → Room (r .series) m
-roomy r m h =
+pub room-each : (r : Rows) (m : ℕ) → m ≤ roomOf r → Room (r .series) m
+room-each r m h =
     let s = r .series in
     let x = room-first (length (s .flow)) (length (s .content)) (length (s .temp)) (length (s .press)) (length (s .status)) m h in
     record { flow = x .0; content = x .1; temp = x .2; press = x .3; status = x .4 }
@@ -78,9 +77,9 @@ module _ (t : List ℕ) (l : Lent) (after : Rows) (h : Header) (x : Accepted t (
   fuels-few = few-in (h .intervals) (h .devices) (h .mine) (h .fuels) (x .rest) (subst Record (x .head) (x .follows))
 
   room-of : Room (readerRows l .series) (h .intervals * h .devices)
-  room-of = roomy (readerRows l) (h .intervals * h .devices) (x .limits .entries)
+  room-of = room-each (readerRows l) (h .intervals * h .devices) (x .limits .entries)
 
-  pub ready : Ready h after
+  pub ready : Roomy h after
   unfolding readerRows
   ready =
       let n : h .intervals ≤ 35136 = within-most (h .intervals) intervalsMost (x .limits .intervals) in
@@ -106,7 +105,7 @@ module _ (t : List ℕ) (l : Lent) (after : Rows) (h : Header) (x : Accepted t (
         series = subst (Room (after .series)) (sym m) (each-as-long (λ e. h .intervals * h .devices ≤ e) (k .series) room-of);
       }
 
-pub ready-for : (t : List ℕ) (l : Lent) (after : Rows) (h : Header) (a : ReadAnswer) → a ≡ ReadAnswer.Record h → ReadRight t (readerRows l) after a → Ready h after
+pub ready-for : (t : List ℕ) (l : Lent) (after : Rows) (h : Header) (a : ReadAnswer) → a ≡ ReadAnswer.Record h → ReadRight t (readerRows l) after a → Roomy h after
 ready-for t l after h a e r = ready t l after h (subst (ReadRight t (readerRows l) after) e r)
 
 -- Reading leaves each row as long as it was.
@@ -217,12 +216,12 @@ module _ (t : List ℕ) (k l : Lent) (e : AsLong k l) where
 
 -- ---- the whole
 
-settled-record : (h : Header) (r : Rows) (s : Devices.Rows)
+settled-record : (h : Header) (r : Rows) (s : ResultRows)
     → Settled (callOf h r s) (partsOf (h .devices * h .intervals) s) (partsAfter h r s) (answerTo h r s)
 unfolding partsAfter answerTo
 settled-record h r s = settled-call (callOf h r s) (partsOf (h .devices * h .intervals) s)
 
-abbrev pub lentAs : Rows → Devices.Rows → Lent
+abbrev pub lentAs : Rows → ResultRows → Lent
 lentAs r results = record { series = r .series; results = results }
 
 module _ (t : List ℕ) (l : Lent) (rows : Rows) (old new : List ℕ) (n : ℕ) where
@@ -260,8 +259,8 @@ module _ (t : List ℕ) (l : Lent) (rows : Rows) (old new : List ℕ) (n : ℕ) 
   reported-refusal (ReadAnswer.Line k) number device place tag r x y z w = reported (ReadAnswer.Line k) r (refusal (ReadAnswer.Line k) number device place x y z w)
 
   -- A record was read and quantified.
-  pub reported-record : (a : ReadAnswer) (h : Header) (b : Answer) (results : Devices.Rows) → a ≡ ReadAnswer.Record h → ReadRight t (readerRows l) rows a
+  pub reported-record : (a : ReadAnswer) (h : Header) (b : Answer) (results : ResultRows) → a ≡ ReadAnswer.Record h → ReadRight t (readerRows l) rows a
       → Quantified h rows (l .results) results b → Leads (printed b) old new n → Reported t l (lentAs rows results) old new n
   reported-record a h b results e r q w =
-      subst (λ (x : Devices.Rows). Reported t l (lentAs rows x) old new n) (sym (q .results))
+      subst (λ (x : ResultRows). Reported t l (lentAs rows x) old new n) (sym (q .results))
       (reported (ReadAnswer.Record h) (subst (ReadRight t (readerRows l) rows) e r) (subst (λ (x : Answer). Leads (printed x) old new n) (q .answer) w))

@@ -13,7 +13,6 @@ use Rattle.sheet_text.specs.Sheet.{textOf}
 use Rattle.drainage_judge.specs.Steps as Steps
 use Rattle.columns.specs.Series as Series
 use Rattle.columns.specs.Series.{Series, checksOf, fuelOf}
-use Rattle.drainage_devices.specs.Devices as Devices
 use Rattle.drainage.specs.Promise.{Settled}
 use Rattle.drainage.specs.declared.Answer.{Answer}
 use Rattle.drainage.specs.declared.Answer.the-variants as Answer
@@ -23,9 +22,9 @@ use Rattle.drainage_record.specs.Read.{ReadRight}
 use Rattle.drainage_record.specs.declared.ReadAnswer.{ReadAnswer}
 use Rattle.drainage_record.specs.declared.ReadAnswer.the-variants as ReadAnswer
 use Rattle.drainage_record.specs.declared.Header.{Header}
-use Rattle.drainage_report.specs.Quantified.{callOf, partsOf, partsAfter, answerTo, resultsAfter}
+use Rattle.drainage_report.specs.Quantified.{ResultRows, callOf, partsOf, partsAfter, answerTo, resultsAfter}
 
--- "On refusal it prints three key=value lines, refusal, device and place"
+-- the three lines of a refusal (rule 13.2)
 unfoldable pub refusalText : ℕ → ℕ → ℕ → List ℕ
 refusalText number device place =
     lineOf (bytes "refusal=") (pos number) ++ (lineOf (bytes "device=") (pos device) ++ lineOf (bytes "place=") (pos place))
@@ -38,7 +37,7 @@ printed (Answer.Refused r) = refusalText (Steps.numberOf r) (Steps.deviceOf r) (
 -- What the caller lends: five series for the record and three result rows.
 pub record Lent : Type 0 where
   pub series : Series
-  pub results : Devices.Rows
+  pub results : ResultRows
 
 -- the record's reader has those series, and rows of zeros for the rest
 unfoldable pub readerRows : Lent → Rows
@@ -50,7 +49,7 @@ readerRows l =
       series = l .series;
     }
 
--- the reader's refusal, with document 01's number, device and place
+-- the reader's refusal, by its number, device and place
 abbrev pub refused : ReadAnswer → List ℕ
 refused a = refusalText (Read.numberOf a) (Read.deviceOf a) (Read.placeOf a)
 
@@ -62,7 +61,7 @@ outputOf ReadAnswer.Devices rows l = refused ReadAnswer.Devices
 outputOf ReadAnswer.Room rows l = refused ReadAnswer.Room
 outputOf (ReadAnswer.Line k) rows l = refused (ReadAnswer.Line k)
 
-abbrev pub resultsOf : ReadAnswer → Rows → Lent → Devices.Rows
+abbrev pub resultsOf : ReadAnswer → Rows → Lent → ResultRows
 resultsOf (ReadAnswer.Record h) rows l = resultsAfter h rows (l .results)
 resultsOf ReadAnswer.Intervals rows l = l .results
 resultsOf ReadAnswer.Devices rows l = l .results

@@ -1,10 +1,11 @@
+-- `drainage::quantify` meets its contract: refused with nothing changed, or accepted with what the definitions give.
 use Rattle.drainage.proofs.Settling.{settled-made}
 use mathlib.Core.Path.{_≡_, refl, sym, ap, _∙_, subst}
 use lib.ListN.{length}
 use Rattle.columns.specs.Series.{seriesNow, checksNow, fuelNow}
 use Rattle.drainage_judge.specs.Call.{Call}
 use Rattle.drainage_judge.proofs.Unrefused.{unrefused}
-use Rattle.drainage_devices.specs.Devices.{Rows}
+use Rattle.drainage_devices.specs.Devices.{Results}
 use Rattle.figures.specs.declared.Figures.{Figures}
 use Rattle.drainage.specs.declared.Answer.the-variants.{Accepted}
 use Rattle.drainage.specs.Promise.{Settled}
@@ -37,8 +38,9 @@ call s =
       content-row-length = length (s .args .content-used .now);
     }
 
-rows : tie.Start → Rows
-rows s = record { outcome = s .args .outcome .now; flow = s .args .flow-used .now; content = s .args .content-used .now }
+results : tie.Start → Results
+results s =
+    record { outcome = s .args .outcome .now; flow = s .args .flow-used .now; content = s .args .content-used .now; accounts = s .args .accounts .now }
 
 judge-requires : tie.Need-judge-requires
 judge-requires c κs = search needs
@@ -47,28 +49,28 @@ enum-known-verdict : tie.Need-enum-known-verdict
 enum-known-verdict c = search needs
 
 returns : tie.Need-returns
-unfolding call rows
+unfolding call results
 returns c =
-    settled-refused (call (start·returns c)) (rows (start·returns c)) _ (sym (judge·returns c .judge .ensures .verdict) ∙ verdict·returns c .verdict .given .1)
+    settled-refused (call (start·returns c)) (results (start·returns c)) _ (sym (judge·returns c .judge .ensures .verdict) ∙ verdict·returns c .verdict .given .1)
 
 enum-told : tie.Need-enum-told
 enum-told c = search needs
 
 fill-rows-requires : tie.Need-fill-rows-requires
-unfolding call rows
+unfolding call results
 fill-rows-requires c κs =
     let x = (unrefused (call (start·fill-rows-requires c)) (sym (judge·fill-rows-requires c .judge .ensures .verdict) ∙ enum-told·fill-rows-requires
-    c .enum-told .given .1)) in (sound (call (start·fill-rows-requires c)) x, x .outcome-long, x .flow-row-long, x .content-row-long)
+    c .enum-told .given .1)) in (sound (call (start·fill-rows-requires c)) x, x .outcome-long, x .flow-row-long, x .content-row-long, search needs)
 
 fuel-requires : tie.Need-fuel-requires
-unfolding call rows
+unfolding call results
 fuel-requires c κs =
     let x = (unrefused (call (start·fuel-requires c)) (sym (judge·fuel-requires c .judge .ensures .verdict) ∙ enum-told·fuel-requires
     c .enum-told .given .1)) in
     x .burnable
 
 sheet-requires : tie.Need-sheet-requires
-unfolding call rows
+unfolding call results
 sheet-requires c κs =
     moderate-call (call (start·sheet-requires c)) (unrefused (call (start·sheet-requires c))
     (sym (judge·sheet-requires c .judge .ensures .verdict) ∙ enum-told·sheet-requires c .enum-told .given .1)) _ _
@@ -84,10 +86,10 @@ same-length-3 : tie.Need-same-length-3
 same-length-3 c = search needs
 
 returns-2 : tie.Need-returns-2
-unfolding call rows
+unfolding call results
 returns-2 c = let s = start·returns-2 c in
     let w = fill-rows·returns-2 c .fill-rows .ensures in
-    settled-made (call s) (rows s) _ _ _ (fill-rows·returns-2 c .fill-rows .result) (c .sheet .result)
+    settled-made (call s) (results s) _ (fill-rows·returns-2 c .fill-rows .result) (c .sheet .result)
     (sym (judge·returns-2 c .judge .ensures .verdict) ∙ enum-told·returns-2 c .enum-told .given .1) w
     (sheet-is (call s) (fill-rows·returns-2 c .fill-rows .result) (fuel·returns-2 c .fuel .result) (c .sheet .result) (c .sheet .ensures) (w .totals)
     (fuel·returns-2 c .fuel .ensures .0))

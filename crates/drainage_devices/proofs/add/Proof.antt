@@ -6,7 +6,7 @@ use lib.Dec.{lit<}
 use lib.ListN.{getD}
 use Rattle.balance.specs.Balance.{baselineMg, carbonDioxideMg, uncombustedMg}
 use Rattle.balance.proofs.Laws.{carbon-le}
-use Rattle.drainage_devices.specs.Totals.{added}
+use Rattle.drainage_devices.specs.Private.{added}
 use Rattle.drainage_devices.proofs.add.Statement.{statement}
 use Rattle.drainage_devices.proofs.add.Tie as tie
 use Rattle.drainage_devices.proofs.add.Reads as reads

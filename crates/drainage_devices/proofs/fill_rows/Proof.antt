@@ -1,38 +1,48 @@
+-- `drainage_devices::fill_rows` meets its contract: rows, accounts and totals up to device d, one device a turn.
 use Prim.Native.Nat.{ℕ, _+_, _*_, _-_, _≤_}
 use mathlib.Core.Path.{_≡_, refl, sym, ap, _∙_}
 use native.Mathlib.Omega.{arith}
 use Rattle.columns.specs.Series.{seriesOf, checksOf}
-use Rattle.drainage_devices.proofs.Loop.{Going, going-start, going-on, going-room, going-done, totals-none}
+use Rattle.drainage_devices.proofs.Loop.{Going, going-start, going-on, going-room, going-place, going-done, totals-none}
 use Rattle.drainage_devices.proofs.fill_rows.Statement.{statement}
 use Rattle.drainage_devices.proofs.fill_rows.Tie as tie
 use Rattle.drainage_devices.proofs.fill_rows.Reads as reads
 use Rattle.drainage_devices.proofs.fill_rows.Lts as lts
 use Rattle.drainage_devices.proofs.add.Reads as add-reads
-use Rattle.drainage_devices.proofs.one.Reads as one-reads
+use Rattle.drainage_devices.proofs.fill_device.Reads as fill-device-reads
 mod PlaceNames
 use PlaceNames.*
 
 abbrev Inv-loop : tie.InvT-loop
-Inv-loop devices n kinds counts positions drifts flow content temp press status outcome₀ flow-used₀ content-used₀ t₀ d₀ outcome flow-used content-used t d =
+Inv-loop devices n kinds counts positions drifts flow content temp press status outcome₀ flow-used₀ content-used₀ accounts₀ t₀ d₀ outcome flow-used content-used accounts t d =
     Going (record { intervals = n; kinds = kinds; checks = checksOf counts positions drifts; series = seriesOf flow content temp press status }) devices
-    outcome₀ flow-used₀ content-used₀ outcome flow-used content-used t d
+    (record { outcome = outcome₀; flow = flow-used₀; content = content-used₀; accounts = accounts₀ })
+    (record { outcome = outcome; flow = flow-used; content = content-used; accounts = accounts }) t d
 
 abbrev μ-loop : tie.MeasureT-loop
-μ-loop devices n kinds counts positions drifts flow content temp press status outcome₀ flow-used₀ content-used₀ t₀ d₀ outcome flow-used content-used t d =
+μ-loop devices n kinds counts positions drifts flow content temp press status outcome₀ flow-used₀ content-used₀ accounts₀ t₀ d₀ outcome flow-used content-used accounts t d =
     devices - d
 
 loop-holds : tie.Need-loop-holds Inv-loop μ-loop
 loop-holds c =
-    going-start _ _ _ _ _ _ (start·loop-holds c .pre .0) (start·loop-holds c .pre .1) (start·loop-holds c .pre .2) (start·loop-holds c .pre .3) (totals-none _)
+    going-start _ _ _ _ (start·loop-holds c .pre .0) (start·loop-holds c .pre .1) (start·loop-holds c .pre .2) (start·loop-holds c .pre .3)
+    (start·loop-holds c .pre .4)
+    (totals-none _)
 
-one-requires : tie.Need-one-requires Inv-loop μ-loop
-one-requires c κs =
-    let v = loop·one-requires c .loop .inv in (v .sound, loop-test·one-requires c .loop-test .taken, v .outcomes .long, v .flows .long, v .contents .long)
+fill-device-requires : tie.Need-fill-device-requires Inv-loop μ-loop
+fill-device-requires c κs =
+    let v = loop·fill-device-requires c .loop .inv in
+    (v .sound, loop-test·fill-device-requires c .loop-test .taken, v .outcomes .long, v .flows .long, v .contents .long)
+
+store-account-requires : tie.Need-store-account-requires Inv-loop μ-loop
+store-account-requires c κs =
+    going-place _ _ _ _ _ _ (loop·store-account-requires c .loop .inv) (fill-device·store-account-requires c .fill-device .result)
+    (loop-test·store-account-requires c .loop-test .taken) (fill-device·store-account-requires c .fill-device .ensures .account)
 
 add-requires : tie.Need-add-requires Inv-loop μ-loop
 add-requires c κs =
-    going-room _ _ _ _ _ _ _ _ _ (one·add-requires c .one .result) _ (loop-test·add-requires c .loop-test .taken) (loop·add-requires c .loop .inv)
-    (one·add-requires c .one .ensures .account)
+    going-room _ _ _ _ _ _ (loop·add-requires c .loop .inv) (fill-device·add-requires c .fill-device .result) (loop-test·add-requires c .loop-test .taken)
+    (fill-device·add-requires c .fill-device .ensures .account)
 
 add-d : tie.Need-add-d Inv-loop μ-loop
 add-d c = omega (arith, loop-test·add-d c .loop-test .taken, loop·add-d c .loop .inv .sound .few-devices)
@@ -42,8 +52,8 @@ loop-less c = omega (arith, loop-test·loop-less c .loop-test .taken)
 
 loop-again : tie.Need-loop-again Inv-loop μ-loop
 loop-again c =
-    going-on _ _ _ _ _ _ _ _ _ _ _ _ _ _ _ (loop-test·loop-again c .loop-test .taken) (loop·loop-again c .loop .inv) (one·loop-again c .one .ensures)
-    (c .add .ensures)
+    going-on _ _ _ _ _ _ (loop·loop-again c .loop .inv) _ _ (fill-device·loop-again c .fill-device .result) (loop-test·loop-again c .loop-test .taken)
+    (fill-device·loop-again c .fill-device .ensures) (store-account·loop-again c .store-account .ensures) (c .add .ensures)
 
 same-length : tie.Need-same-length Inv-loop μ-loop
 same-length c = loop·same-length c .loop .inv .outcomes .long ∙ sym (start·same-length c .pre .1)
@@ -54,8 +64,11 @@ same-length-2 c = loop·same-length-2 c .loop .inv .flows .long ∙ sym (start·
 same-length-3 : tie.Need-same-length-3 Inv-loop μ-loop
 same-length-3 c = loop·same-length-3 c .loop .inv .contents .long ∙ sym (start·same-length-3 c .pre .3)
 
+same-length-4 : tie.Need-same-length-4 Inv-loop μ-loop
+same-length-4 c = loop·same-length-4 c .loop .inv .accounts .long ∙ sym (start·same-length-4 c .pre .4)
+
 returns : tie.Need-returns Inv-loop μ-loop
-returns c = going-done _ _ _ _ _ _ _ _ _ _ (c .loop-test .left) (loop·returns c .loop .inv)
+returns c = going-done _ _ _ _ _ _ (loop·returns c .loop .inv) (c .loop-test .left)
 
 pub fill-rows-spec : {M : Type 1} → statement M
 fill-rows-spec =
@@ -64,7 +77,8 @@ fill-rows-spec =
     Inv-loop
     μ-loop
     loop-holds
-    one-requires
+    fill-device-requires
+    store-account-requires
     add-requires
     add-d
     loop-less
@@ -72,4 +86,5 @@ fill-rows-spec =
     same-length
     same-length-2
     same-length-3
+    same-length-4
     returns)

@@ -15,12 +15,12 @@ mod PlaceNames
 use PlaceNames.*
 
 abbrev Inv-loop : tie.InvT-loop
-Inv-loop flow content temp press status outcomes₀ flow-used₀ content-used₀ n counts₀ methane₀ i₀ outcomes flow-used content-used counts methane i =
-    Going (record { series = seriesOf flow content temp press status; flow-held = flow-used₀; content-held = content-used₀ }) n outcomes₀ outcomes flow-used
-    content-used counts methane i
+Inv-loop flow content temp press status outcome₀ flow-used₀ content-used₀ n outcomes₀ methane₀ i₀ outcome flow-used content-used outcomes methane i =
+    Going (record { series = seriesOf flow content temp press status; flow-held = flow-used₀; content-held = content-used₀ }) n outcome₀ outcome flow-used
+    content-used outcomes methane i
 
 abbrev μ-loop : tie.MeasureT-loop
-μ-loop flow content temp press status outcomes₀ flow-used₀ content-used₀ n counts₀ methane₀ i₀ outcomes flow-used content-used counts methane i =
+μ-loop flow content temp press status outcome₀ flow-used₀ content-used₀ n outcomes₀ methane₀ i₀ outcome flow-used content-used outcomes methane i =
     n - i
 
 -- the turn of the loop in which an interval is tested, and the device's rows
@@ -103,17 +103,17 @@ methane-litres-requires c κs =
     measured-inside (loop·methane-litres-requires c .loop .inv) (loop-test·methane-litres-requires c .loop-test .taken) _
     (toZ-ofZ (record { sfits = t·methane-litres-requires c .t .given })) _ (all-measured·methane-litres-requires c .all-measured .ensures) (c .if1 .taken)
 
-slice-write-outcomes : tie.Need-slice-write-outcomes Inv-loop μ-loop
-slice-write-outcomes c = omega (arith, inside-rows (loop·slice-write-outcomes c .loop .inv) (loop-test·slice-write-outcomes c .loop-test .taken) .0)
+slice-write-outcome : tie.Need-slice-write-outcome Inv-loop μ-loop
+slice-write-outcome c = omega (arith, inside-rows (loop·slice-write-outcome c .loop .inv) (loop-test·slice-write-outcome c .loop-test .taken) .0)
 
-array-read-counts : tie.Need-array-read-counts Inv-loop μ-loop
-array-read-counts c = lit< tt
+array-read-outcomes : tie.Need-array-read-outcomes Inv-loop μ-loop
+array-read-outcomes c = lit< tt
 
-add-counts : tie.Need-add-counts Inv-loop μ-loop
-add-counts c = slot-fits (loop·add-counts c .loop .inv) _ _ (lit< tt) (lit< tt)
+add-outcomes : tie.Need-add-outcomes Inv-loop μ-loop
+add-outcomes c = slot-fits (loop·add-outcomes c .loop .inv) _ _ (lit< tt) (lit< tt)
 
-array-write-counts : tie.Need-array-write-counts Inv-loop μ-loop
-array-write-counts c = lit< tt
+array-write-outcomes : tie.Need-array-write-outcomes Inv-loop μ-loop
+array-write-outcomes c = lit< tt
 
 add-methane : tie.Need-add-methane Inv-loop μ-loop
 add-methane c = methane-room (loop·add-methane c .loop .inv) (loop-test·add-methane c .loop-test .taken) _ (whole c)
@@ -132,8 +132,8 @@ settle-requires c κs =
     reads-ready (loop·settle-requires c .loop .inv) (loop-test·settle-requires c .loop-test .taken) _
     (toZ-ofZ (record { sfits = t·settle-requires c .t .given }))
 
-slice-write-outcomes-2 : tie.Need-slice-write-outcomes-2 Inv-loop μ-loop
-slice-write-outcomes-2 c = omega (arith, inside-rows (loop·slice-write-outcomes-2 c .loop .inv) (loop-test·slice-write-outcomes-2 c .loop-test .taken) .0)
+slice-write-outcome-2 : tie.Need-slice-write-outcome-2 Inv-loop μ-loop
+slice-write-outcome-2 c = omega (arith, inside-rows (loop·slice-write-outcome-2 c .loop .inv) (loop-test·slice-write-outcome-2 c .loop-test .taken) .0)
 
 mul-flow-used : tie.Need-mul-flow-used Inv-loop μ-loop
 mul-flow-used c = index-fits (loop·mul-flow-used c .loop .inv) (loop-test·mul-flow-used c .loop-test .taken) .0
@@ -150,19 +150,19 @@ slice-write-content-used c = inside-rows (loop·slice-write-content-used c .loop
 cast-k : tie.Need-cast-k Inv-loop μ-loop
 cast-k c = going-slot (loop·cast-k c .loop .inv) (loop-test·cast-k c .loop-test .taken) _ (got c) .0
 
-mul-counts : tie.Need-mul-counts Inv-loop μ-loop
-mul-counts c = going-slot (loop·mul-counts c .loop .inv) (loop-test·mul-counts c .loop-test .taken) _ (got c) .1
+mul-outcomes : tie.Need-mul-outcomes Inv-loop μ-loop
+mul-outcomes c = going-slot (loop·mul-outcomes c .loop .inv) (loop-test·mul-outcomes c .loop-test .taken) _ (got c) .1
 
-array-read-counts-2 : tie.Need-array-read-counts-2 Inv-loop μ-loop
-array-read-counts-2 c = going-few (loop·array-read-counts-2 c .loop .inv) (loop-test·array-read-counts-2 c .loop-test .taken) _ (got c)
+array-read-outcomes-2 : tie.Need-array-read-outcomes-2 Inv-loop μ-loop
+array-read-outcomes-2 c = going-few (loop·array-read-outcomes-2 c .loop .inv) (loop-test·array-read-outcomes-2 c .loop-test .taken) _ (got c)
 
-add-counts-2 : tie.Need-add-counts-2 Inv-loop μ-loop
-add-counts-2 c =
-    slot-fits (loop·add-counts-2 c .loop .inv) (c .settle .result .outcome) _
-    (going-few (loop·add-counts-2 c .loop .inv) (loop-test·add-counts-2 c .loop-test .taken) _ (got c)) (lit< tt)
+add-outcomes-2 : tie.Need-add-outcomes-2 Inv-loop μ-loop
+add-outcomes-2 c =
+    slot-fits (loop·add-outcomes-2 c .loop .inv) (c .settle .result .outcome) _
+    (going-few (loop·add-outcomes-2 c .loop .inv) (loop-test·add-outcomes-2 c .loop-test .taken) _ (got c)) (lit< tt)
 
-array-write-counts-2 : tie.Need-array-write-counts-2 Inv-loop μ-loop
-array-write-counts-2 c = going-few (loop·array-write-counts-2 c .loop .inv) (loop-test·array-write-counts-2 c .loop-test .taken) _ (got c)
+array-write-outcomes-2 : tie.Need-array-write-outcomes-2 Inv-loop μ-loop
+array-write-outcomes-2 c = going-few (loop·array-write-outcomes-2 c .loop .inv) (loop-test·array-write-outcomes-2 c .loop-test .taken) _ (got c)
 
 add-methane-2 : tie.Need-add-methane-2 Inv-loop μ-loop
 add-methane-2 c = methane-room (loop·add-methane-2 c .loop .inv) (loop-test·add-methane-2 c .loop-test .taken) _ (got (settle·add-methane-2 c))
@@ -210,25 +210,25 @@ finish-spec =
     slice-read-c-held
     all-measured-requires
     methane-litres-requires
-    slice-write-outcomes
-    array-read-counts
-    add-counts
-    array-write-counts
+    slice-write-outcome
+    array-read-outcomes
+    add-outcomes
+    array-write-outcomes
     add-methane
     add-i
     loop-less
     loop-again
     settle-requires
-    slice-write-outcomes-2
+    slice-write-outcome-2
     mul-flow-used
     slice-write-flow-used
     mul-content-used
     slice-write-content-used
     cast-k
-    mul-counts
-    array-read-counts-2
-    add-counts-2
-    array-write-counts-2
+    mul-outcomes
+    array-read-outcomes-2
+    add-outcomes-2
+    array-write-outcomes-2
     add-methane-2
     add-i-2
     loop-less-2

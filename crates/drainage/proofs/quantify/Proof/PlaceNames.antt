@@ -4,9 +4,9 @@ use Rattle.drainage.proofs.quantify.Tie as tie
 abbrev pub start·returns : tie.After-known-told → tie.Start
 start·returns c = c .before .before .before .before .before .before .before .before .before .before .before .before .before .before .before .before
 
-abbrev pub start·fill-rows-requires : tie.After-fill-rows-arg3 → tie.Start
+abbrev pub start·fill-rows-requires : tie.After-fill-rows-arg4 → tie.Start
 start·fill-rows-requires c =
-    c .before .before .before .before .before .before .before .before .before .before .before .before .before .before .before .before .before .before
+    c .before .before .before .before .before .before .before .before .before .before .before .before .before .before .before .before .before .before .before
 
 abbrev pub start·fuel-requires : tie.After-slice-known6 → tie.Start
 start·fuel-requires c = start·fill-rows-requires (c .before .before .before .before .before .before .before)
@@ -20,8 +20,8 @@ start·returns-2 c = start·sheet-requires (c .before)
 abbrev pub judge·returns : tie.After-known-told → tie.After-judge
 judge·returns c = c .before .before .before
 
-abbrev pub judge·fill-rows-requires : tie.After-fill-rows-arg3 → tie.After-judge
-judge·fill-rows-requires c = c .before .before .before .before .before
+abbrev pub judge·fill-rows-requires : tie.After-fill-rows-arg4 → tie.After-judge
+judge·fill-rows-requires c = c .before .before .before .before .before .before
 
 abbrev pub judge·fuel-requires : tie.After-slice-known6 → tie.After-judge
 judge·fuel-requires c = judge·fill-rows-requires (c .before .before .before .before .before .before .before)
@@ -35,8 +35,8 @@ judge·returns-2 c = judge·sheet-requires (c .before)
 abbrev pub verdict·returns : tie.After-known-told → tie.After-verdict
 verdict·returns c = c .before
 
-abbrev pub enum-told·fill-rows-requires : tie.After-fill-rows-arg3 → tie.After-enum-told
-enum-told·fill-rows-requires c = c .before .before .before
+abbrev pub enum-told·fill-rows-requires : tie.After-fill-rows-arg4 → tie.After-enum-told
+enum-told·fill-rows-requires c = c .before .before .before .before
 
 abbrev pub enum-told·fuel-requires : tie.After-slice-known6 → tie.After-enum-told
 enum-told·fuel-requires c = enum-told·fill-rows-requires (c .before .before .before .before .before .before .before)
@@ -62,6 +62,7 @@ fuel·returns-2 c = c .before
 --   After-shared-slice-known7/shared-slice-known7 After-shared-slice-known8/shared-slice-known8 After-shared-slice-known9/shared-slice-known9
 --   After-slice-known/slice-known After-slice-known2/slice-known2 After-slice-known3/slice-known3 ?judge-requires After-judge/judge At-match-keys1/match
 --   ?enum-known-verdict After-verdict/verdict After-known-told/known-told ?returns At-match-keys2/match ?enum-told After-enum-told/enum-told
---   After-fill-rows-arg/fill-rows-arg After-fill-rows-arg2/fill-rows-arg2 After-fill-rows-arg3/fill-rows-arg3 ?fill-rows-requires After-fill-rows/fill-rows
---   After-outcome/outcome After-slice-known4/slice-known4 After-flow-used/flow-used After-slice-known5/slice-known5 After-content-used/content-used
---   After-slice-known6/slice-known6 ?fuel-requires After-fuel/fuel ?sheet-requires After-sheet/sheet ?same-length ?same-length-2 ?same-length-3 ?returns-2
+--   After-fill-rows-arg/fill-rows-arg After-fill-rows-arg2/fill-rows-arg2 After-fill-rows-arg3/fill-rows-arg3 After-fill-rows-arg4/fill-rows-arg4
+--   ?fill-rows-requires After-fill-rows/fill-rows After-outcome/outcome After-slice-known4/slice-known4 After-flow-used/flow-used
+--   After-slice-known5/slice-known5 After-content-used/content-used After-slice-known6/slice-known6 ?fuel-requires After-fuel/fuel ?sheet-requires
+--   After-sheet/sheet ?same-length ?same-length-2 ?same-length-3 ?returns-2

@@ -10,7 +10,7 @@ start·fill-series-requires-2 c = start·fill-series-requires (c .before .before
 abbrev pub start·finish-requires : tie.After-finish-arg3 → tie.Start
 start·finish-requires c = start·fill-series-requires-2 (c .before .before .before .before .before .before)
 
-abbrev pub start·destroyed-requires : tie.After-tally → tie.Start
+abbrev pub start·destroyed-requires : tie.After-outcomes → tie.Start
 start·destroyed-requires c = start·finish-requires (c .before .before .before .before .before .before .before .before)
 
 abbrev pub start·uncombusted-requires : tie.After-destroyed → tie.Start
@@ -22,7 +22,7 @@ start·returns c = start·uncombusted-requires (c .before)
 abbrev pub fill-series·finish-requires : tie.After-finish-arg3 → tie.After-fill-series
 fill-series·finish-requires c = c .before .before .before .before .before .before .before .before .before .before .before .before
 
-abbrev pub fill-series·destroyed-requires : tie.After-tally → tie.After-fill-series
+abbrev pub fill-series·destroyed-requires : tie.After-outcomes → tie.After-fill-series
 fill-series·destroyed-requires c = fill-series·finish-requires (c .before .before .before .before .before .before .before .before)
 
 abbrev pub fill-series·uncombusted-requires : tie.After-destroyed → tie.After-fill-series
@@ -34,7 +34,7 @@ fill-series·returns c = fill-series·uncombusted-requires (c .before)
 abbrev pub fill-series2·finish-requires : tie.After-finish-arg3 → tie.After-fill-series2
 fill-series2·finish-requires c = c .before .before .before .before .before
 
-abbrev pub fill-series2·destroyed-requires : tie.After-tally → tie.After-fill-series2
+abbrev pub fill-series2·destroyed-requires : tie.After-outcomes → tie.After-fill-series2
 fill-series2·destroyed-requires c = fill-series2·finish-requires (c .before .before .before .before .before .before .before .before)
 
 abbrev pub fill-series2·uncombusted-requires : tie.After-destroyed → tie.After-fill-series2
@@ -43,7 +43,7 @@ fill-series2·uncombusted-requires c = fill-series2·destroyed-requires (c .befo
 abbrev pub fill-series2·returns : tie.After-uncombusted → tie.After-fill-series2
 fill-series2·returns c = fill-series2·uncombusted-requires (c .before)
 
-abbrev pub finish·destroyed-requires : tie.After-tally → tie.After-finish
+abbrev pub finish·destroyed-requires : tie.After-outcomes → tie.After-finish
 finish·destroyed-requires c = c .before .before .before .before .before .before .before
 
 abbrev pub finish·uncombusted-requires : tie.After-destroyed → tie.After-finish
@@ -66,5 +66,5 @@ destroyed·returns c = c .before
 --   ?sub-fill-series-4 ?part-fill-series-start-4 ?part-fill-series-end-4 After-fill-series-arg5/fill-series-arg5 After-fill-series-arg6/fill-series-arg6
 --   ?fill-series-requires-2 After-fill-series2/fill-series2 After-content-used/content-used After-slice-known5/slice-known5 After-finish-arg/finish-arg
 --   After-finish-arg2/finish-arg2 After-finish-arg3/finish-arg3 ?finish-requires After-finish/finish After-outcome/outcome After-slice-known6/slice-known6
---   After-flow-used2/flow-used2 After-slice-known7/slice-known7 After-content-used2/content-used2 After-slice-known8/slice-known8 After-tally/tally
+--   After-flow-used2/flow-used2 After-slice-known7/slice-known7 After-content-used2/content-used2 After-slice-known8/slice-known8 After-outcomes/outcomes
 --   ?destroyed-requires After-destroyed/destroyed ?uncombusted-requires After-uncombusted/uncombusted ?same-length ?same-length-2 ?same-length-3 ?returns

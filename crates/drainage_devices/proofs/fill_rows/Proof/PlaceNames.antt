@@ -2,8 +2,8 @@
 use Rattle.drainage_devices.proofs.fill_rows.Tie as tie
 
 module _ {Inv-loop : tie.InvT-loop} {μ-loop : tie.MeasureT-loop} where
-  abbrev pub start·loop-holds : tie.After-slice-known3 Inv-loop μ-loop → tie.Start Inv-loop μ-loop
-  start·loop-holds c = c .before .before .before .before .before .before .before .before .before .before
+  abbrev pub start·loop-holds : tie.After-slice-known4 Inv-loop μ-loop → tie.Start Inv-loop μ-loop
+  start·loop-holds c = c .before .before .before .before .before .before .before .before .before .before .before
 
   abbrev pub start·same-length : tie.After-loop Inv-loop μ-loop → tie.Start Inv-loop μ-loop
   start·same-length c = start·loop-holds (c .before .before)
@@ -14,6 +14,9 @@ module _ {Inv-loop : tie.InvT-loop} {μ-loop : tie.MeasureT-loop} where
   abbrev pub start·same-length-3 : tie.After-loop Inv-loop μ-loop → tie.Start Inv-loop μ-loop
   start·same-length-3 c = start·same-length c
 
+  abbrev pub start·same-length-4 : tie.After-loop Inv-loop μ-loop → tie.Start Inv-loop μ-loop
+  start·same-length-4 c = start·same-length c
+
   abbrev pub loop·same-length : tie.After-loop Inv-loop μ-loop → tie.At-loop Inv-loop μ-loop
   loop·same-length c = c .before
 
@@ -23,14 +26,20 @@ module _ {Inv-loop : tie.InvT-loop} {μ-loop : tie.MeasureT-loop} where
   abbrev pub loop·same-length-3 : tie.After-loop Inv-loop μ-loop → tie.At-loop Inv-loop μ-loop
   loop·same-length-3 c = loop·same-length c
 
+  abbrev pub loop·same-length-4 : tie.After-loop Inv-loop μ-loop → tie.At-loop Inv-loop μ-loop
+  loop·same-length-4 c = loop·same-length c
+
   abbrev pub loop·returns : tie.After-loop Inv-loop μ-loop → tie.At-loop Inv-loop μ-loop
   loop·returns c = loop·same-length c
 
-  abbrev pub loop·one-requires : tie.After-one-arg3 Inv-loop μ-loop → tie.At-loop Inv-loop μ-loop
-  loop·one-requires c = c .before .before .before .before
+  abbrev pub loop·fill-device-requires : tie.After-fill-device-arg3 Inv-loop μ-loop → tie.At-loop Inv-loop μ-loop
+  loop·fill-device-requires c = c .before .before .before .before
 
-  abbrev pub loop·add-requires : tie.After-slice-known6 Inv-loop μ-loop → tie.At-loop Inv-loop μ-loop
-  loop·add-requires c = loop·one-requires (c .before .before .before .before .before .before .before)
+  abbrev pub loop·store-account-requires : tie.After-store-account-arg Inv-loop μ-loop → tie.At-loop Inv-loop μ-loop
+  loop·store-account-requires c = loop·fill-device-requires (c .before .before .before .before .before .before .before .before)
+
+  abbrev pub loop·add-requires : tie.After-slice-known8 Inv-loop μ-loop → tie.At-loop Inv-loop μ-loop
+  loop·add-requires c = loop·store-account-requires (c .before .before .before)
 
   abbrev pub loop·add-d : tie.After-add Inv-loop μ-loop → tie.At-loop Inv-loop μ-loop
   loop·add-d c = loop·add-requires (c .before)
@@ -38,11 +47,14 @@ module _ {Inv-loop : tie.InvT-loop} {μ-loop : tie.MeasureT-loop} where
   abbrev pub loop·loop-again : tie.After-add Inv-loop μ-loop → tie.At-loop Inv-loop μ-loop
   loop·loop-again c = loop·add-d c
 
-  abbrev pub loop-test·one-requires : tie.After-one-arg3 Inv-loop μ-loop → tie.In-loop Inv-loop μ-loop
-  loop-test·one-requires c = c .before .before .before
+  abbrev pub loop-test·fill-device-requires : tie.After-fill-device-arg3 Inv-loop μ-loop → tie.In-loop Inv-loop μ-loop
+  loop-test·fill-device-requires c = c .before .before .before
 
-  abbrev pub loop-test·add-requires : tie.After-slice-known6 Inv-loop μ-loop → tie.In-loop Inv-loop μ-loop
-  loop-test·add-requires c = loop-test·one-requires (c .before .before .before .before .before .before .before)
+  abbrev pub loop-test·store-account-requires : tie.After-store-account-arg Inv-loop μ-loop → tie.In-loop Inv-loop μ-loop
+  loop-test·store-account-requires c = loop-test·fill-device-requires (c .before .before .before .before .before .before .before .before)
+
+  abbrev pub loop-test·add-requires : tie.After-slice-known8 Inv-loop μ-loop → tie.In-loop Inv-loop μ-loop
+  loop-test·add-requires c = loop-test·store-account-requires (c .before .before .before)
 
   abbrev pub loop-test·add-d : tie.After-add Inv-loop μ-loop → tie.In-loop Inv-loop μ-loop
   loop-test·add-d c = loop-test·add-requires (c .before)
@@ -53,16 +65,24 @@ module _ {Inv-loop : tie.InvT-loop} {μ-loop : tie.MeasureT-loop} where
   abbrev pub loop-test·loop-again : tie.After-add Inv-loop μ-loop → tie.In-loop Inv-loop μ-loop
   loop-test·loop-again c = loop-test·add-d c
 
-  abbrev pub one·add-requires : tie.After-slice-known6 Inv-loop μ-loop → tie.After-one Inv-loop μ-loop
-  one·add-requires c = c .before .before .before .before .before .before
+  abbrev pub fill-device·store-account-requires : tie.After-store-account-arg Inv-loop μ-loop → tie.After-fill-device Inv-loop μ-loop
+  fill-device·store-account-requires c = c .before .before .before .before .before .before .before
 
-  abbrev pub one·loop-again : tie.After-add Inv-loop μ-loop → tie.After-one Inv-loop μ-loop
-  one·loop-again c = one·add-requires (c .before)
+  abbrev pub fill-device·add-requires : tie.After-slice-known8 Inv-loop μ-loop → tie.After-fill-device Inv-loop μ-loop
+  fill-device·add-requires c = fill-device·store-account-requires (c .before .before .before)
+
+  abbrev pub fill-device·loop-again : tie.After-add Inv-loop μ-loop → tie.After-fill-device Inv-loop μ-loop
+  fill-device·loop-again c = fill-device·add-requires (c .before)
+
+  abbrev pub store-account·loop-again : tie.After-add Inv-loop μ-loop → tie.After-store-account Inv-loop μ-loop
+  store-account·loop-again c = c .before .before .before
 
 -- What the code binds and asks, in order, as it was when this was generated:
 --   After-shared-slice-known/shared-slice-known After-shared-slice-known2/shared-slice-known2 After-shared-slice-known3/shared-slice-known3
 --   After-shared-slice-known4/shared-slice-known4 After-shared-slice-known5/shared-slice-known5 After-shared-slice-known6/shared-slice-known6
---   After-shared-slice-known7/shared-slice-known7 After-slice-known/slice-known After-slice-known2/slice-known2 After-slice-known3/slice-known3 ?loop-holds
---   At-loop/loop In-loop/loop-test After-loop/loop-test After-one-arg/one-arg After-one-arg2/one-arg2 After-one-arg3/one-arg3 ?one-requires After-one/one
---   After-outcome/outcome After-slice-known4/slice-known4 After-flow-used/flow-used After-slice-known5/slice-known5 After-content-used/content-used
---   After-slice-known6/slice-known6 ?add-requires After-add/add ?add-d ?loop-less ?loop-again ?same-length ?same-length-2 ?same-length-3 ?returns
+--   After-shared-slice-known7/shared-slice-known7 After-slice-known/slice-known After-slice-known2/slice-known2 After-slice-known3/slice-known3
+--   After-slice-known4/slice-known4 ?loop-holds At-loop/loop In-loop/loop-test After-loop/loop-test After-fill-device-arg/fill-device-arg
+--   After-fill-device-arg2/fill-device-arg2 After-fill-device-arg3/fill-device-arg3 ?fill-device-requires After-fill-device/fill-device After-outcome/outcome
+--   After-slice-known5/slice-known5 After-flow-used/flow-used After-slice-known6/slice-known6 After-content-used/content-used After-slice-known7/slice-known7
+--   After-store-account-arg/store-account-arg ?store-account-requires After-store-account/store-account After-accounts/accounts After-slice-known8/slice-known8
+--   ?add-requires After-add/add ?add-d ?loop-less ?loop-again ?same-length ?same-length-2 ?same-length-3 ?same-length-4 ?returns

@@ -71,11 +71,11 @@ module _ {Inv-loop : tie.InvT-loop} {μ-loop : tie.MeasureT-loop} where
   abbrev pub loop·whole : tie.After-methane-litres Inv-loop μ-loop → tie.At-loop Inv-loop μ-loop
   loop·whole c = loop·methane-litres-requires (c .before)
 
-  abbrev pub loop·slice-write-outcomes : tie.After-methane-litres Inv-loop μ-loop → tie.At-loop Inv-loop μ-loop
-  loop·slice-write-outcomes c = loop·whole c
+  abbrev pub loop·slice-write-outcome : tie.After-methane-litres Inv-loop μ-loop → tie.At-loop Inv-loop μ-loop
+  loop·slice-write-outcome c = loop·whole c
 
-  abbrev pub loop·add-counts : tie.After-methane-litres Inv-loop μ-loop → tie.At-loop Inv-loop μ-loop
-  loop·add-counts c = loop·whole c
+  abbrev pub loop·add-outcomes : tie.After-methane-litres Inv-loop μ-loop → tie.At-loop Inv-loop μ-loop
+  loop·add-outcomes c = loop·whole c
 
   abbrev pub loop·add-methane : tie.After-methane-litres Inv-loop μ-loop → tie.At-loop Inv-loop μ-loop
   loop·add-methane c = loop·whole c
@@ -92,8 +92,8 @@ module _ {Inv-loop : tie.InvT-loop} {μ-loop : tie.MeasureT-loop} where
   abbrev pub loop·got : tie.After-settle Inv-loop μ-loop → tie.At-loop Inv-loop μ-loop
   loop·got c = loop·settle-requires (c .before)
 
-  abbrev pub loop·slice-write-outcomes-2 : tie.After-settle Inv-loop μ-loop → tie.At-loop Inv-loop μ-loop
-  loop·slice-write-outcomes-2 c = loop·got c
+  abbrev pub loop·slice-write-outcome-2 : tie.After-settle Inv-loop μ-loop → tie.At-loop Inv-loop μ-loop
+  loop·slice-write-outcome-2 c = loop·got c
 
   abbrev pub loop·mul-flow-used : tie.After-settle Inv-loop μ-loop → tie.At-loop Inv-loop μ-loop
   loop·mul-flow-used c = loop·got c
@@ -110,17 +110,17 @@ module _ {Inv-loop : tie.InvT-loop} {μ-loop : tie.MeasureT-loop} where
   abbrev pub loop·cast-k : tie.After-settle Inv-loop μ-loop → tie.At-loop Inv-loop μ-loop
   loop·cast-k c = loop·got c
 
-  abbrev pub loop·mul-counts : tie.After-settle Inv-loop μ-loop → tie.At-loop Inv-loop μ-loop
-  loop·mul-counts c = loop·got c
+  abbrev pub loop·mul-outcomes : tie.After-settle Inv-loop μ-loop → tie.At-loop Inv-loop μ-loop
+  loop·mul-outcomes c = loop·got c
 
-  abbrev pub loop·array-read-counts-2 : tie.After-settle Inv-loop μ-loop → tie.At-loop Inv-loop μ-loop
-  loop·array-read-counts-2 c = loop·got c
+  abbrev pub loop·array-read-outcomes-2 : tie.After-settle Inv-loop μ-loop → tie.At-loop Inv-loop μ-loop
+  loop·array-read-outcomes-2 c = loop·got c
 
-  abbrev pub loop·add-counts-2 : tie.After-settle Inv-loop μ-loop → tie.At-loop Inv-loop μ-loop
-  loop·add-counts-2 c = loop·got c
+  abbrev pub loop·add-outcomes-2 : tie.After-settle Inv-loop μ-loop → tie.At-loop Inv-loop μ-loop
+  loop·add-outcomes-2 c = loop·got c
 
-  abbrev pub loop·array-write-counts-2 : tie.After-settle Inv-loop μ-loop → tie.At-loop Inv-loop μ-loop
-  loop·array-write-counts-2 c = loop·got c
+  abbrev pub loop·array-write-outcomes-2 : tie.After-settle Inv-loop μ-loop → tie.At-loop Inv-loop μ-loop
+  loop·array-write-outcomes-2 c = loop·got c
 
   abbrev pub loop·add-methane-2 : tie.After-struct-known Inv-loop μ-loop → tie.At-loop Inv-loop μ-loop
   loop·add-methane-2 c = loop·got (c .before)
@@ -182,8 +182,8 @@ module _ {Inv-loop : tie.InvT-loop} {μ-loop : tie.MeasureT-loop} where
   abbrev pub loop-test·whole : tie.After-methane-litres Inv-loop μ-loop → tie.In-loop Inv-loop μ-loop
   loop-test·whole c = loop-test·methane-litres-requires (c .before)
 
-  abbrev pub loop-test·slice-write-outcomes : tie.After-methane-litres Inv-loop μ-loop → tie.In-loop Inv-loop μ-loop
-  loop-test·slice-write-outcomes c = loop-test·whole c
+  abbrev pub loop-test·slice-write-outcome : tie.After-methane-litres Inv-loop μ-loop → tie.In-loop Inv-loop μ-loop
+  loop-test·slice-write-outcome c = loop-test·whole c
 
   abbrev pub loop-test·add-methane : tie.After-methane-litres Inv-loop μ-loop → tie.In-loop Inv-loop μ-loop
   loop-test·add-methane c = loop-test·whole c
@@ -200,8 +200,8 @@ module _ {Inv-loop : tie.InvT-loop} {μ-loop : tie.MeasureT-loop} where
   abbrev pub loop-test·got : tie.After-settle Inv-loop μ-loop → tie.In-loop Inv-loop μ-loop
   loop-test·got c = loop-test·settle-requires (c .before)
 
-  abbrev pub loop-test·slice-write-outcomes-2 : tie.After-settle Inv-loop μ-loop → tie.In-loop Inv-loop μ-loop
-  loop-test·slice-write-outcomes-2 c = loop-test·got c
+  abbrev pub loop-test·slice-write-outcome-2 : tie.After-settle Inv-loop μ-loop → tie.In-loop Inv-loop μ-loop
+  loop-test·slice-write-outcome-2 c = loop-test·got c
 
   abbrev pub loop-test·mul-flow-used : tie.After-settle Inv-loop μ-loop → tie.In-loop Inv-loop μ-loop
   loop-test·mul-flow-used c = loop-test·got c
@@ -218,17 +218,17 @@ module _ {Inv-loop : tie.InvT-loop} {μ-loop : tie.MeasureT-loop} where
   abbrev pub loop-test·cast-k : tie.After-settle Inv-loop μ-loop → tie.In-loop Inv-loop μ-loop
   loop-test·cast-k c = loop-test·got c
 
-  abbrev pub loop-test·mul-counts : tie.After-settle Inv-loop μ-loop → tie.In-loop Inv-loop μ-loop
-  loop-test·mul-counts c = loop-test·got c
+  abbrev pub loop-test·mul-outcomes : tie.After-settle Inv-loop μ-loop → tie.In-loop Inv-loop μ-loop
+  loop-test·mul-outcomes c = loop-test·got c
 
-  abbrev pub loop-test·array-read-counts-2 : tie.After-settle Inv-loop μ-loop → tie.In-loop Inv-loop μ-loop
-  loop-test·array-read-counts-2 c = loop-test·got c
+  abbrev pub loop-test·array-read-outcomes-2 : tie.After-settle Inv-loop μ-loop → tie.In-loop Inv-loop μ-loop
+  loop-test·array-read-outcomes-2 c = loop-test·got c
 
-  abbrev pub loop-test·add-counts-2 : tie.After-settle Inv-loop μ-loop → tie.In-loop Inv-loop μ-loop
-  loop-test·add-counts-2 c = loop-test·got c
+  abbrev pub loop-test·add-outcomes-2 : tie.After-settle Inv-loop μ-loop → tie.In-loop Inv-loop μ-loop
+  loop-test·add-outcomes-2 c = loop-test·got c
 
-  abbrev pub loop-test·array-write-counts-2 : tie.After-settle Inv-loop μ-loop → tie.In-loop Inv-loop μ-loop
-  loop-test·array-write-counts-2 c = loop-test·got c
+  abbrev pub loop-test·array-write-outcomes-2 : tie.After-settle Inv-loop μ-loop → tie.In-loop Inv-loop μ-loop
+  loop-test·array-write-outcomes-2 c = loop-test·got c
 
   abbrev pub loop-test·add-methane-2 : tie.After-struct-known Inv-loop μ-loop → tie.In-loop Inv-loop μ-loop
   loop-test·add-methane-2 c = loop-test·got (c .before)
@@ -279,7 +279,8 @@ module _ {Inv-loop : tie.InvT-loop} {μ-loop : tie.MeasureT-loop} where
 --   After-shared-slice-known6/shared-slice-known6 ?shared-slice-read-c ?mul-t ?shared-slice-copy-out-t After-t/t ?mul-p
 --   After-shared-slice-known7/shared-slice-known7 ?shared-slice-read-p After-shared-slice-known8/shared-slice-known8 ?shared-slice-read-code ?mul-f-held
 --   After-slice-known4/slice-known4 ?slice-read-f-held ?mul-c-held After-slice-known5/slice-known5 ?slice-read-c-held ?all-measured-requires
---   After-all-measured/all-measured Then1/if1 ?methane-litres-requires After-methane-litres/methane-litres ?slice-write-outcomes ?array-read-counts ?add-counts
---   ?array-write-counts ?add-methane ?add-i ?loop-less ?loop-again Else1/if1 ?settle-requires After-settle/settle ?slice-write-outcomes-2 ?mul-flow-used
---   ?slice-write-flow-used ?mul-content-used ?slice-write-content-used ?cast-k ?mul-counts ?array-read-counts-2 ?add-counts-2 ?array-write-counts-2
---   After-struct-known/struct-known ?add-methane-2 ?add-i-2 ?loop-less-2 ?loop-again-2 ?same-length ?same-length-2 ?same-length-3 ?returns
+--   After-all-measured/all-measured Then1/if1 ?methane-litres-requires After-methane-litres/methane-litres ?slice-write-outcome ?array-read-outcomes
+--   ?add-outcomes ?array-write-outcomes ?add-methane ?add-i ?loop-less ?loop-again Else1/if1 ?settle-requires After-settle/settle ?slice-write-outcome-2
+--   ?mul-flow-used ?slice-write-flow-used ?mul-content-used ?slice-write-content-used ?cast-k ?mul-outcomes ?array-read-outcomes-2 ?add-outcomes-2
+--   ?array-write-outcomes-2 After-struct-known/struct-known ?add-methane-2 ?add-i-2 ?loop-less-2 ?loop-again-2 ?same-length ?same-length-2 ?same-length-3
+--   ?returns

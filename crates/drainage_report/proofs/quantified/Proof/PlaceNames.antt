@@ -53,7 +53,7 @@ abbrev pub start·slice-aggregate-quantify-11 : tie.After-quantify-arg11 → tie
 start·slice-aggregate-quantify-11 c = start·slice-aggregate-quantify-10 (c .before)
 
 abbrev pub start·returns : tie.After-slice-known6 → tie.Start
-start·returns c = start·slice-aggregate-quantify-11 (c .before .before .before .before .before .before .before .before .before .before)
+start·returns c = start·slice-aggregate-quantify-11 (c .before .before .before .before .before .before .before .before .before .before .before)
 
 abbrev pub lesser·slice-relend-prefix-quantify : tie.After-quantify-arg11 → tie.After-lesser
 lesser·slice-relend-prefix-quantify c = c .before .before .before .before .before .before .before .before .before .before .before .before .before
@@ -62,7 +62,7 @@ abbrev pub lesser·slice-aggregate-quantify-12 : tie.After-quantify-arg12 → ti
 lesser·slice-aggregate-quantify-12 c = lesser·slice-relend-prefix-quantify (c .before)
 
 abbrev pub lesser·returns : tie.After-slice-known6 → tie.After-lesser
-lesser·returns c = lesser·slice-aggregate-quantify-12 (c .before .before .before .before .before .before .before .before .before)
+lesser·returns c = lesser·slice-aggregate-quantify-12 (c .before .before .before .before .before .before .before .before .before .before)
 
 abbrev pub lesser2·slice-relend-prefix-quantify-2 : tie.After-quantify-arg12 → tie.After-lesser2
 lesser2·slice-relend-prefix-quantify-2 c = c .before .before .before .before .before .before .before .before .before .before .before .before .before
@@ -71,7 +71,7 @@ abbrev pub lesser2·slice-aggregate-quantify-13 : tie.After-quantify-arg13 → t
 lesser2·slice-aggregate-quantify-13 c = lesser2·slice-relend-prefix-quantify-2 (c .before)
 
 abbrev pub lesser2·returns : tie.After-slice-known6 → tie.After-lesser2
-lesser2·returns c = lesser2·slice-aggregate-quantify-13 (c .before .before .before .before .before .before .before .before)
+lesser2·returns c = lesser2·slice-aggregate-quantify-13 (c .before .before .before .before .before .before .before .before .before)
 
 abbrev pub lesser3·slice-relend-prefix-quantify-3 : tie.After-quantify-arg13 → tie.After-lesser3
 lesser3·slice-relend-prefix-quantify-3 c = c .before .before .before .before .before .before .before .before .before .before .before .before .before
@@ -80,7 +80,7 @@ abbrev pub lesser3·slice-aggregate-quantify-14 : tie.After-quantify-arg14 → t
 lesser3·slice-aggregate-quantify-14 c = lesser3·slice-relend-prefix-quantify-3 (c .before)
 
 abbrev pub lesser3·returns : tie.After-slice-known6 → tie.After-lesser3
-lesser3·returns c = lesser3·slice-aggregate-quantify-14 (c .before .before .before .before .before .before .before)
+lesser3·returns c = lesser3·slice-aggregate-quantify-14 (c .before .before .before .before .before .before .before .before)
 
 abbrev pub quantify·returns : tie.After-slice-known6 → tie.After-quantify
 quantify·returns c = c .before .before .before .before .before .before
@@ -99,5 +99,6 @@ quantify·returns c = c .before .before .before .before .before .before
 --   After-quantify-arg10/quantify-arg10 ?slice-aggregate-quantify-10 After-quantify-arg11/quantify-arg11 ?slice-aggregate-quantify-11
 --   ?slice-relend-prefix-quantify After-quantify-arg12/quantify-arg12 ?slice-aggregate-quantify-12 ?slice-relend-prefix-quantify-2
 --   After-quantify-arg13/quantify-arg13 ?slice-aggregate-quantify-13 ?slice-relend-prefix-quantify-3 After-quantify-arg14/quantify-arg14
---   ?slice-aggregate-quantify-14 ?quantify-requires After-quantify/quantify After-outcome/outcome After-slice-known4/slice-known4 After-flow-used/flow-used
---   After-slice-known5/slice-known5 After-content-used/content-used After-slice-known6/slice-known6 ?same-length ?same-length-2 ?same-length-3 ?returns
+--   ?slice-aggregate-quantify-14 After-accounts/accounts ?quantify-requires After-quantify/quantify After-outcome/outcome After-slice-known4/slice-known4
+--   After-flow-used/flow-used After-slice-known5/slice-known5 After-content-used/content-used After-slice-known6/slice-known6 ?same-length ?same-length-2
+--   ?same-length-3 ?returns

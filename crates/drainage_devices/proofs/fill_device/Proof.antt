@@ -1,11 +1,11 @@
--- `devices::one` meets its contract: each part of a row is device d's, and fill_row's answer is its own.
+-- `drainage_devices::fill_device` meets its contract: each part of a row is device d's, and fill_row's answer is its own.
 -- Assumes nothing.
 use native.Mathlib.Omega.{arith}
 use Rattle.columns.specs.Series.{seriesNow, checksNow}
 use Rattle.drainage_devices.specs.Devices.{Lent, recordsOf}
 use Rattle.drainage_devices.proofs.Laws.{cells, part-end, Places, places-of, parts-right, rows-kept, rows-written}
-use Rattle.drainage_devices.proofs.one.Statement.{statement}
-use Rattle.drainage_devices.proofs.one.Tie as tie
+use Rattle.drainage_devices.proofs.fill_device.Statement.{statement}
+use Rattle.drainage_devices.proofs.fill_device.Tie as tie
 mod PlaceNames
 use PlaceNames.*
 
@@ -204,8 +204,8 @@ returns c =
     let s = start·returns c in rows-written (lent s) (s .args .devices) (s .pre .0) (s .args .d) (s .pre .1) (s .args .outcome .now) (s .args .flow-used .now)
     (s .args .content-used .now) _ _ _ (fill-row·returns c .fill-row .result) (fill-row·returns c .fill-row .ensures)
 
-pub one-spec : {M : Type 1} → statement M
-one-spec =
+pub fill-device-spec : {M : Type 1} → statement M
+fill-device-spec =
     tie.close
     (tie.spec
     mul-a
