@@ -27,7 +27,7 @@ pub record Records : Type 0 where
 abbrev pub intervalsOf : Records → ℕ
 intervalsOf r = length (r .series .flow)
 
--- "each device has a flow instrument, then a CH4 instrument": 0 and 1
+-- rule 3.7: the flow instrument is 0, the CH4 instrument 1; each has places of its own
 unfoldable pub instrumentOf : Records → ℕ → Instrument
 instrumentOf r g =
     record {
@@ -36,7 +36,7 @@ instrumentOf r g =
       drifts = cut (r .checks .drifts) (checksMost * g) (checksMost * g + checksMost);
     }
 
--- "This precedes replacement": each series with its drift taken out
+-- rule 6.8: each series with its drift taken out, before anything is replaced
 unfoldable pub correctedFlow : Records → List ℕ
 correctedFlow r = build (intervalsOf r) (correctedAt (instrumentOf r 0) (r .series .flow))
 
@@ -49,7 +49,7 @@ abbrev pub replacedAs : ℕ → Replaced → ℕ
 replacedAs outcome (Replaced.by v) = outcome
 replacedAs outcome (Replaced.excluded o) = o
 
--- "Outcome, the first that applies"
+-- rule 8.1
 unfoldable pub outcomeAt : Records → ℕ → ℕ
 outcomeAt r i =
     outcomeOf (getD (r .series .status) i 0)
@@ -63,24 +63,24 @@ abbrev pub valueOf : Replaced → ℕ
 valueOf (Replaced.by v) = v
 valueOf (Replaced.excluded o) = 0
 
--- a series' value for an interval: measured, with its drift taken out, or replaced
+-- rule 8.4: a series' value for an interval, measured, with its drift taken out, or replaced
 unfoldable pub valueAt : List ℕ → List ℕ → ℕ → ℕ
 valueAt reading corrected i =
     pick (missingAt reading i) (valueOf (replacementAt reading corrected i)) (getD corrected i mark)
 
--- "The three output rows hold outcome, flow used and CH4 used; excluded intervals hold 0 for both values"
+-- what the rows hold for an interval (rule 8.4)
 unfoldable pub flowUsedAt : Records → ℕ → ℕ
 flowUsedAt r i = usedFor (outcomeAt r i) (valueAt (r .series .flow) (correctedFlow r) i)
 
 unfoldable pub contentUsedAt : Records → ℕ → ℕ
 contentUsedAt r i = usedFor (outcomeAt r i) (valueAt (r .series .content) (correctedContent r) i)
 
--- the methane litres of an interval
+-- the methane litres of an interval (rules 9.1 and 9.2)
 unfoldable pub litresAt : Records → ℕ → ℕ
 litresAt r i =
     litresFor (outcomeAt r i) (flowUsedAt r i) (contentUsedAt r i) (getD (r .series .temp) i (pos 0)) (getD (r .series .press) i 0)
 
--- "Q = their sum"
+-- rule 9.3
 unfoldable pub methaneOf : Records → ℕ
 methaneOf r = sumTo (intervalsOf r) (litresAt r)
 

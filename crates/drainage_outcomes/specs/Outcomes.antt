@@ -1,4 +1,4 @@
--- "Outcome, the first that applies", and what an interval then counts for.
+-- An interval's outcome (rule 8.1), and what it then counts for.
 -- Assumes nothing.
 use Prim.Native.Nat.{ℕ, _+_, _-_, _≤_, _<_}
 use mathlib.Core.Path.{_≡_, refl}
@@ -33,7 +33,7 @@ outcomeOf status lacking noFlow noContent byFlow byContent =
     (pick noContent byContent
     0))))))
 
--- "0 both measured": the device ran, and neither a reading nor temperature or pressure is missing
+-- the device ran, and nothing is missing: outcome 0
 unfoldable pub allMeasured : ℕ → ℕ → ℤ → ℕ → ℕ → Bool
 allMeasured flow content temp press status =
     not (either (eqb status 0)
@@ -41,15 +41,15 @@ allMeasured flow content temp press status =
     (either (either (tempMissing temp) (pressMissing press))
     (either (eqb flow mark) (eqb content mark)))))
 
--- outcomes 0, 1 and 2 are counted, the others exclude the interval
+-- rule 8.2: outcomes 0, 1 and 2 are counted, the others exclude the interval
 abbrev pub counted : ℕ → Bool
 counted outcome = ltb outcome 3
 
--- "excluded intervals hold 0 for both values"
+-- rule 8.4: the value of a counted interval, 0 of an excluded one
 abbrev pub usedFor : ℕ → ℕ → ℕ
 usedFor outcome value = pick (counted outcome) value 0
 
--- the methane litres of an interval, none where it is excluded
+-- the methane litres of an interval (rules 9.1 and 9.2), none where it is excluded
 unfoldable pub litresFor : ℕ → ℕ → ℕ → ℤ → ℕ → ℕ
 litresFor outcome flow content temp press = pick (counted outcome) (methaneLitres flow content temp press) 0
 
