@@ -193,8 +193,8 @@ body-short n d =
     (times-short (deviceLines n) (n * 61 + 2093) d (device-short n))))
 
 -- 27 bytes of the first two lines
-whole : (n d room a b c : ℕ) → d ≤ devicesMost → n * d ≤ room → a ≤ 16 → b ≤ 11 → c ≤ d * (n * 61 + 2093) + 2457 → a + (b + c) ≤ 61 * room + 35972
-whole n d room a b c hd hr ha hb hc = omega arith
+file-short : (n d room a b c : ℕ) → d ≤ devicesMost → n * d ≤ room → a ≤ 16 → b ≤ 11 → c ≤ d * (n * 61 + 2093) + 2457 → a + (b + c) ≤ 61 * room + 35972
+file-short n d room a b c hd hr ha hb hc = omega arith
 
 from-one : (most n : ℕ) → fromOne most n ≡ true → n ≤ most
 from-one most n e = leb-true n most (both-true (leb 1 n) (leb n most) e .1)
@@ -206,7 +206,7 @@ record-longest n d room ls h l =
     let a : List ℕ = lineText Field.intervals (pos n) in
     let b : List ℕ = lineText Field.devices (pos d) in
     rw (length-append a (b ++ textOf ls), length-append b (textOf ls))
-    (whole n d room (length a) (length b) (length (textOf ls)) (from-one devicesMost d (l .devices)) (l .entries)
+    (file-short n d room (length a) (length b) (length (textOf ls)) (from-one devicesMost d (l .devices)) (l .entries)
     (line-by Field.intervals 10 5 (pos n) refl (dec-length 4 n (omega (arith, from-one intervalsMost n (l .intervals)))))
     (line-by Field.devices 8 2 (pos d) refl (dec-length 1 d (omega (arith, from-one devicesMost d (l .devices)))))
     (part-all (fromMine n d) (Short (d * (n * 61 + 2093) + 2457)) ls (body-short n d) (after-head n d ls h) .short))

@@ -48,9 +48,9 @@ stands-next t i p q v w u a b =
     cancel v (drop p t) (w ++ (u ++ drop q t))
     (alike t i p q v (v ++ (w ++ u)) a b ∙ append-assoc v (w ++ u) (drop q t) ∙ ap (λ (l : List ℕ). v ++ l) (append-assoc w u (drop q t)))
     in
-    let whole : take p t ++ (w ++ (u ++ drop q t)) ≡ t = ap (λ (l : List ℕ). take p t ++ l) (sym rest) ∙ take-append-drop p t in
+    let joined : take p t ++ (w ++ (u ++ drop q t)) ≡ t = ap (λ (l : List ℕ). take p t ++ l) (sym rest) ∙ take-append-drop p t in
     subst (λ (n : ℕ). Stands t n (n + length w) w) (length-take-le p t (a .within))
-    (subst (λ (l : List ℕ). Stands l (length (take p t)) (length (take p t) + length w) w) whole (stands-in (take p t) w (u ++ drop q t)))
+    (subst (λ (l : List ℕ). Stands l (length (take p t)) (length (take p t) + length w) w) joined (stands-in (take p t) w (u ++ drop q t)))
 
 -- ---- lines along one plan
 

@@ -12,16 +12,16 @@ use mir.Val.{SFits, toZ, ofZ}
 use mir.ValLaws.{toZ-ofZ}
 use Rattle.text.specs.declared.Natural.{Natural}
 use Rattle.text.specs.declared.Natural.the-variants as Natural
-use Rattle.text.specs.declared.Whole.{Whole}
-use Rattle.text.specs.declared.Whole.the-variants as Whole
+use Rattle.text.specs.declared.Signed.{Signed}
+use Rattle.text.specs.declared.Signed.the-variants as Signed
 use Rattle.text.specs.Form.{Form, Of, ReadAs, Broken, RefusedAt}
 use Rattle.text.specs.Decimal.{Range, Fit, plain}
 use Rattle.text.specs.Line.{Entry, lineOf, line, linesOf, AllFit, lines}
-use Rattle.text.specs.Answer.{Put, NaturalIn, WholeIn, wrongAt, wholeWrongAt, AskedSigned}
+use Rattle.text.specs.Answer.{Put, NaturalIn, SignedIn, wrongAt, signedWrongAt, AskedSigned}
 use Rattle.text.proofs.Natural as NaturalType
-use Rattle.text.proofs.Whole as WholeType
+use Rattle.text.proofs.Signed as SignedType
 use Rattle.text.proofs.Forms.{refused-alike}
-use Rattle.text.proofs.Lines.{natural-read, whole-read, natural-wrong, whole-wrong}
+use Rattle.text.proofs.Lines.{natural-read, signed-read, natural-wrong, signed-wrong}
 use Rattle.text.proofs.Writing.{put-leads}
 use Rattle.text.proofs.Tables.{lines-read, lines-broken, lines-past, lines-all, lines-put, lines-append, lines-longest, lines-snoc, Wide, longest}
 use Rattle.figures.specs.declared.Figures.{Figures}
@@ -218,17 +218,17 @@ module _ {t : List ℕ} {zs : List ℤ} {p : ℕ} (i : ℕ) (h : i < 15) (a : Re
   pub natural-step : {r : Natural} {v q : ℕ} → r ≡ Natural.Value v q → NaturalIn (line (entryAt i .key) (entryAt i .range)) t p r → ReadAs (lines (take (suc i) schema)) t 0 q (zs ++ (pos v ∷ []))
   natural-step {r} {v} {q} e b = read-step t i h zs p a (pos v) q (natural-read (line (entryAt i .key) (entryAt i .range)) t p r v q e b)
 
-  pub whole-step : {r : Whole} {z : ℤ} {q : ℕ} → r ≡ Whole.Value z q → WholeIn (line (entryAt i .key) (entryAt i .range)) t p r → ReadAs (lines (take (suc i) schema)) t 0 q (zs ++ (z ∷ []))
-  whole-step {r} {z} {q} e b = read-step t i h zs p a z q (whole-read (line (entryAt i .key) (entryAt i .range)) t p r z q e b)
+  pub signed-step : {r : Signed} {z : ℤ} {q : ℕ} → r ≡ Signed.Value z q → SignedIn (line (entryAt i .key) (entryAt i .range)) t p r → ReadAs (lines (take (suc i) schema)) t 0 q (zs ++ (z ∷ []))
+  signed-step {r} {z} {q} e b = read-step t i h zs p a z q (signed-read (line (entryAt i .key) (entryAt i .range)) t p r z q e b)
 
-  pub whole-fit : {r : Whole} {z : ℤ} {q : ℕ} → r ≡ Whole.Value z q → WholeIn (line (entryAt i .key) (entryAt i .range)) t p r → Fit (entryAt i .range) z
-  whole-fit {r} {z} {q} e b = whole-read (line (entryAt i .key) (entryAt i .range)) t p r z q e b .taken
+  pub read-fit : {r : Signed} {z : ℤ} {q : ℕ} → r ≡ Signed.Value z q → SignedIn (line (entryAt i .key) (entryAt i .range)) t p r → Fit (entryAt i .range) z
+  read-fit {r} {z} {q} e b = signed-read (line (entryAt i .key) (entryAt i .range)) t p r z q e b .taken
 
   pub natural-refused : (r : Natural) {k : ℕ} → tagOf NaturalType.the-type r ≡ 1 → k ≡ wrongAt r → NaturalIn (line (entryAt i .key) (entryAt i .range)) t p r → RefusedAt IsSheet t k
   natural-refused r {k} tag e b = read-refused t i h zs p a k (natural-wrong (line (entryAt i .key) (entryAt i .range)) t p k r tag e b)
 
-  pub whole-refused : (r : Whole) {k : ℕ} → tagOf WholeType.the-type r ≡ 1 → k ≡ wholeWrongAt r → WholeIn (line (entryAt i .key) (entryAt i .range)) t p r → RefusedAt IsSheet t k
-  whole-refused r {k} tag e b = read-refused t i h zs p a k (whole-wrong (line (entryAt i .key) (entryAt i .range)) t p k r tag e b)
+  pub signed-refused : (r : Signed) {k : ℕ} → tagOf SignedType.the-type r ≡ 1 → k ≡ signedWrongAt r → SignedIn (line (entryAt i .key) (entryAt i .range)) t p r → RefusedAt IsSheet t k
+  signed-refused r {k} tag e b = read-refused t i h zs p a k (signed-wrong (line (entryAt i .key) (entryAt i .range)) t p k r tag e b)
 
 pub head-read : {t : List ℕ} {r : Head} {v : Volumes} {q : ℕ} → r ≡ Head.Read v q → HeadIn t r → ReadAs (lines (take 8 schema)) t 0 q (volumesOf v)
 head-read {t} e b = subst (HeadIn t) e b

@@ -4,7 +4,7 @@ use refusals::Refusal;
 use refusals::Told;
 use refusals::Verdict;
 use text::Natural;
-use text::Whole;
+use text::Signed;
 ghost use Prim.Native.Nat.{_≤_};
 ghost use mathlib.Core.Path.{_≡_};
 ghost use lib.ListN.{length, take};
@@ -209,11 +209,11 @@ pub fn read(t: &[u8]) -> ReadAnswer
         return ReadAnswer::Refused(Refusal::NoSheet(a12.wrong_at()));
     };
     let a13 = text::read_signed_line(t, p12, b"reduction_mg=", SIGNED_BELOW, SIGNED_MOST);
-    let Whole::Value(reduction_mg, p13) = a13 else {
+    let Signed::Value(reduction_mg, p13) = a13 else {
         return ReadAnswer::Refused(Refusal::NoSheet(a13.wrong_at()));
     };
     let a14 = text::read_signed_line(t, p13, b"tonnes=", SIGNED_BELOW, SIGNED_MOST);
-    let Whole::Value(tonnes, p14) = a14 else {
+    let Signed::Value(tonnes, p14) = a14 else {
         return ReadAnswer::Refused(Refusal::NoSheet(a14.wrong_at()));
     };
     let a15 = text::read_line(t, p14, b"credits=", 0, MOST);

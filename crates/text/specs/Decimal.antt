@@ -1,4 +1,4 @@
--- Decimals (document 01: "decimals without leading zeros or plus; minus zero is refused").
+-- Decimals: no leading zero, no plus, no minus zero (rule 11.2).
 use Prim.Native.Nat.{ℕ, zero, suc, _+_, _/_, _%_, _≤_, _<_}
 use mathlib.Core.Path.{_≡_, refl}
 use mathlib.Core.Bool.{Bool, true, false}

@@ -19,13 +19,13 @@ pub record Of {A : Type 0} (f : Form A) (p : List ℕ) : Type 0 where
 -- Some text of the language begins with p.
 pub record Begun (L : List ℕ → Type 0) (p : List ℕ) : Type 0 where
   pub rest : List ℕ
-  pub whole : L (p ++ rest)
+  pub belongs : L (p ++ rest)
 
 -- Some text of the language begins with p and goes on after it.
 pub record Started (L : List ℕ → Type 0) (p : List ℕ) : Type 0 where
   pub next : ℕ
   pub rest : List ℕ
-  pub whole : L (p ++ (next ∷ rest))
+  pub belongs : L (p ++ (next ∷ rest))
 
 -- The bytes of t from `start` to `stop` are w, all inside t.
 pub record Stands (t : List ℕ) (start stop : ℕ) (w : List ℕ) : Type 0 where
@@ -45,9 +45,8 @@ pub record Broken (L : List ℕ → Type 0) (t : List ℕ) (start k : ℕ) : Typ
   pub begins : Started L read
   pub ends : k < length t → Begun L (read ++ (getD t k 0 ∷ [])) → ⊥
 
--- The whole of t is refused at k (document 01: "the byte offset of the first byte that no sheet could have there
--- (the length, if text stops short)"): some text of L begins with the first k bytes, none with the first k + 1
--- where there is a byte at k, and t is no text of L.
+-- The whole of t is refused at k, the first byte that no text of L could have there, or the end where t stops short (rule 11.7):
+-- some text of L begins with the first k bytes, none with the first k + 1 where there is a byte at k, and t is no text of L.
 pub record RefusedAt (L : List ℕ → Type 0) (t : List ℕ) (k : ℕ) : Type 0 where
   pub within : k ≤ length t
   pub begins : Begun L (take k t)

@@ -1,4 +1,4 @@
--- Lines key=value ended by byte 10, in a fixed order (document 01: "Both are key=value lines ended by byte 10, in fixed order").
+-- Lines of a key and a value, ended by byte 10, in a fixed order (rule 11.1).
 use Prim.Native.Nat.{ℕ}
 use mathlib.Core.Path.{_≡_, refl}
 use mathlib.Core.List.{List, [], _∷_, _++_}

@@ -13,7 +13,7 @@ use Rattle.sheet_text.specs.Sheet.{schema, valuesOf}
 use Rattle.sheet_text.specs.Read.{Refused}
 use Rattle.sheet_text.specs.Head.{volumesOf}
 use Rattle.text.proofs.Lines.{line-asked}
-use Rattle.sheet_text.proofs.Steps.{natural-step, whole-step, whole-fit, natural-refused, whole-refused, head-read, head-refused, read-past, read-all}
+use Rattle.sheet_text.proofs.Steps.{natural-step, signed-step, read-fit, natural-refused, signed-refused, head-read, head-refused, read-past, read-all}
 use Rattle.sheet_text.proofs.Steps.{asked-signed, signed-back}
 use Rattle.sheet_text.proofs.read.Statement.{statement}
 use Rattle.sheet_text.proofs.read.Tie as tie
@@ -76,12 +76,12 @@ values13 c = values12 (known-told5·values13 c) ++ ((a13·values13 c .a13 .given
 
 fact13 : (c : tie.After-known-told6) → ReadAs (lines (take 13 schema)) (now (start13 c .args .t)) 0 (a13·fact13 c .a13 .given .0 .1 .0) (values13 c)
 unfolding schema
-fact13 c = whole-step 12 (omega arith) (fact12 (known-told5·fact13 c)) (a13·fact13 c .a13 .given .1) (read-signed-line·fact13 c .read-signed-line .ensures)
+fact13 c = signed-step 12 (omega arith) (fact12 (known-told5·fact13 c)) (a13·fact13 c .a13 .given .1) (read-signed-line·fact13 c .read-signed-line .ensures)
 
 back13 : (c : tie.After-known-told6) → toZ w64 (ofZ w64 (a13·back13 c .a13 .given .0 .0)) ≡ a13·back13 c .a13 .given .0 .0
 unfolding schema
 back13 c =
-    signed-back (a13·back13 c .a13 .given .0 .0) (whole-fit 12 (omega arith) (fact12 (known-told5·back13 c)) (a13·back13 c .a13 .given .1)
+    signed-back (a13·back13 c .a13 .given .0 .0) (read-fit 12 (omega arith) (fact12 (known-told5·back13 c)) (a13·back13 c .a13 .given .1)
     (read-signed-line·back13 c .read-signed-line .ensures))
 
 abbrev start14 : tie.After-known-told7 → tie.Start
@@ -92,12 +92,12 @@ values14 c = values13 (known-told6·values14 c) ++ ((a14·values14 c .a14 .given
 
 fact14 : (c : tie.After-known-told7) → ReadAs (lines (take 14 schema)) (now (start14 c .args .t)) 0 (a14·fact14 c .a14 .given .0 .1 .0) (values14 c)
 unfolding schema
-fact14 c = whole-step 13 (omega arith) (fact13 (known-told6·fact14 c)) (a14·fact14 c .a14 .given .1) (read-signed-line2·fact14 c .read-signed-line2 .ensures)
+fact14 c = signed-step 13 (omega arith) (fact13 (known-told6·fact14 c)) (a14·fact14 c .a14 .given .1) (read-signed-line2·fact14 c .read-signed-line2 .ensures)
 
 back14 : (c : tie.After-known-told7) → toZ w64 (ofZ w64 (a14·back14 c .a14 .given .0 .0)) ≡ a14·back14 c .a14 .given .0 .0
 unfolding schema
 back14 c =
-    signed-back (a14·back14 c .a14 .given .0 .0) (whole-fit 13 (omega arith) (fact13 (known-told6·back14 c)) (a14·back14 c .a14 .given .1)
+    signed-back (a14·back14 c .a14 .given .0 .0) (read-fit 13 (omega arith) (fact13 (known-told6·back14 c)) (a14·back14 c .a14 .given .1)
     (read-signed-line2·back14 c .read-signed-line2 .ensures))
 
 abbrev start15 : tie.After-known-told8 → tie.Start
@@ -234,7 +234,7 @@ returns-6 : tie.Need-returns-6
 unfolding schema
 returns-6 c =
     Refused.noSheet
-    (whole-refused 12 (omega arith) (fact12 (known-told5·returns-6 c)) (read-signed-line·returns-6 c .read-signed-line .result)
+    (signed-refused 12 (omega arith) (fact12 (known-told5·returns-6 c)) (read-signed-line·returns-6 c .read-signed-line .result)
     (match6·returns-6 c .match6 .keys2) (c .wrong-at6 .ensures) (read-signed-line·returns-6 c .read-signed-line .ensures))
 
 slice-aggregate-read-signed-line-2 : tie.Need-slice-aggregate-read-signed-line-2
@@ -256,7 +256,7 @@ returns-7 : tie.Need-returns-7
 unfolding schema
 returns-7 c =
     Refused.noSheet
-    (whole-refused 13 (omega arith) (fact13 (known-told6·returns-7 c)) (read-signed-line2·returns-7 c .read-signed-line2 .result)
+    (signed-refused 13 (omega arith) (fact13 (known-told6·returns-7 c)) (read-signed-line2·returns-7 c .read-signed-line2 .result)
     (match7·returns-7 c .match7 .keys2) (c .wrong-at7 .ensures) (read-signed-line2·returns-7 c .read-signed-line2 .ensures))
 
 slice-aggregate-read-line-5 : tie.Need-slice-aggregate-read-line-5
