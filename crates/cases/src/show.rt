@@ -1,9 +1,9 @@
 // What is printed of a case.
 use crate::series;
 use crate::tokens;
-use drainage_judge::Refusal;
 use figures::Figures;
 use libc::STDOUT_FILENO;
+use refusals::Refusal;
 use sheet_text::WriteAnswer;
 
 pub fn text(t: &[u8]) {
@@ -32,9 +32,10 @@ fn all_kept(outcome: &[u8], flow_used: &[u16], content_used: &[u16]) -> u64 {
 
 // A refusal, and whether every entry of the three result rows is what it was.
 pub fn refusal(r: Refusal, outcome: &[u8], flow_used: &[u16], content_used: &[u16]) {
-    line(b"refusal=", r.number());
-    line(b"device=", r.device() as u64);
-    line(b"place=", r.place() as u64);
+    let told = r.told();
+    line(b"refusal=", told.number);
+    line(b"device=", told.device as u64);
+    line(b"place=", told.place as u64);
     line(b"kept=", all_kept(outcome, flow_used, content_used));
 }
 

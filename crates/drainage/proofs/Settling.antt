@@ -25,17 +25,18 @@ use Rattle.drainage_devices.specs.Totals.{countIn, countedIn, excludedIn, kindI
 use Rattle.drainage_devices.specs.declared.Totals.{Totals}
 use Rattle.drainage_devices.proofs.Laws.{row-long, litres-most}
 use Rattle.drainage_judge.specs.Call.{Call}
-use Rattle.drainage_judge.specs.Steps.{judged}
-use Rattle.drainage_judge.specs.Accepted.{Accepted as NotRefused}
-use Rattle.drainage_judge.specs.declared.Refusal.{Refusal}
-use Rattle.drainage_judge.specs.declared.Verdict.{Verdict}
-use Rattle.drainage_judge.specs.declared.Verdict.the-variants.{Clean, Refused as Offended}
-use Rattle.drainage_judge.proofs.Laws.{accepted, judged-clean, judged-refused}
+use Rattle.refusals.specs.declared.Refusal.{Refusal}
+use Rattle.refusals.specs.declared.Verdict.{Verdict}
+use Rattle.refusals.specs.declared.Verdict.the-variants.{Clean, Refused as Offended}
+use Rattle.steps.specs.Step.{Tells}
+use Rattle.drainage_judge.specs.Order.{judged, stepsOf}
+use Rattle.drainage_judge.proofs.Laws.{judged-clean, judged-refused}
+use Rattle.drainage_judge.proofs.Unrefused.{Unrefused, unrefused}
 use Rattle.figures.specs.declared.Figures.{Figures}
 use Rattle.drainage.specs.declared.Answer.{Answer}
 use Rattle.drainage.specs.declared.Answer.the-variants.{Accepted, Refused}
 use Rattle.drainage.specs.Sheet.{lentIn, fuelSum, fuelIn, figuresFrom, figuresOf}
-use Rattle.drainage.specs.Promise.{answerBy, rowsBy, numberIn, deviceIn, placeIn, Told, usedIn, Settled}
+use Rattle.drainage.specs.Promise.{answerBy, rowsBy, toldIn, usedIn, Settled}
 use Rattle.drainage.proofs.Sound.{sound}
 
 same-litres : {o o′ f f′ g g′ p p′ : ℕ} {t t′ : ℤ} → o ≡ o′ → f ≡ f′ → g ≡ g′ → t ≡ t′ → p ≡ p′
@@ -44,7 +45,7 @@ same-litres a b c d e i = pick (counted (a i)) (methaneLitres (b i) (c i) (d i) 
 
 -- ---- an entry of the joined rows
 
-module _ (c : Call) (x : NotRefused c) where
+module _ (c : Call) (x : Unrefused c) where
   abbrev after : Rows
   after = rowsOf (lentIn c) (c .devices)
 
@@ -144,12 +145,12 @@ never : {X : Type 0} (r : Refusal) (f : Figures) → Refused r ≡ Accepted f �
 never r f e = let z : _≡_ {A = ℕ} 0 1 = cc in absurd (let w : ⊥ = omega arith in w)
 
 -- the answer's numbers, through the definitions that give document 01's
-told-by : (c : Call) (a : Answer) → a ≡ answerBy (judged c) c → Told c a
+told-by : (c : Call) (a : Answer) → a ≡ answerBy (judged c) c → Tells (stepsOf c) (toldIn a)
 unfolding answerBy
 told-by c a e =
     record {
-      clear = λ x. let q : a ≡ Accepted (figuresOf c) = e ∙ ap (λ (v : Verdict). answerBy v c) (judged-clean c x) in (ap numberIn q, ap deviceIn q, ap placeIn q);
-      offended = λ r x. let q : a ≡ Refused r = e ∙ ap (λ (v : Verdict). answerBy v c) (judged-refused c r x) in (ap numberIn q, ap deviceIn q, ap placeIn q);
+      clear = λ x. ap toldIn (e ∙ ap (λ (v : Verdict). answerBy v c) (judged-clean c x));
+      offended = λ r x. ap toldIn (e ∙ ap (λ (v : Verdict). answerBy v c) (judged-refused c r x));
     }
 
 -- refused: the answer is the refusal and nothing has changed
@@ -171,7 +172,7 @@ pub settled-accepted : (c : Call) (before after : Rows) → judged c ≡ Clean �
     → Settled c before after (Accepted (figuresOf c))
 unfolding answerBy rowsBy
 settled-accepted c before now e w =
-    let x = accepted c e in
+    let x = unrefused c e in
     record {
       answer = sym (ap (λ (v : Verdict). answerBy v c) e);
       rows = w ∙ sym (ap (λ (v : Verdict). rowsBy v c before) e);
@@ -206,13 +207,13 @@ pub settled-unique : (c : Call) (before one two : Rows) (a b : Answer) → Settl
 settled-unique c before one two a b x y = (x .answer ∙ sym (y .answer), x .rows ∙ sym (y .rows))
 
 -- the sums fit
-moderate-totals : (c : Call) → NotRefused c → (fuel : ℕ) → fuel ≤ 256000000000000000
+moderate-totals : (c : Call) → Unrefused c → (fuel : ℕ) → fuel ≤ 256000000000000000
     → Moderate (totalsOf (lentIn c) (c .devices) .«baseline_mg») (totalsOf (lentIn c) (c .devices) .«co2_mg» + totalsOf (lentIn c) (c .devices) .«uncombusted_mg» + fuel)
 unfolding totalsOf
 moderate-totals c x fuel l =
     moderate (c .devices) (kindIn (lentIn c)) (litresIn (lentIn c)) fuel (x .shape .devices-most) (λ d h. litres-most (lentIn c) (c .devices) (sound c x) d h) l
 
-pub moderate-call : (c : Call) → NotRefused c → (t : Totals) (fuel : ℕ) → t ≡ totalsOf (lentIn c) (c .devices) → fuel ≤ 256000000000000000
+pub moderate-call : (c : Call) → Unrefused c → (t : Totals) (fuel : ℕ) → t ≡ totalsOf (lentIn c) (c .devices) → fuel ≤ 256000000000000000
     → Moderate (t .«baseline_mg») (t .«co2_mg» + t .«uncombusted_mg» + fuel)
 moderate-call c x t fuel e l =
     subst (λ (s : Totals). Moderate (s .«baseline_mg») (s .«co2_mg» + s .«uncombusted_mg» + fuel)) (sym e) (moderate-totals c x fuel l)

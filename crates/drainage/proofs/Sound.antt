@@ -16,7 +16,7 @@ use Rattle.drainage_drift.specs.Drift.{Ordered, Instrument}
 use Rattle.drainage_device.specs.Device.{Records, Right, instrumentOf, intervalsOf}
 use Rattle.drainage_devices.specs.Devices.{Lent, recordsOf, Sound}
 use Rattle.drainage_judge.specs.Call.{Call}
-use Rattle.drainage_judge.specs.Accepted.{Accepted}
+use Rattle.drainage_judge.proofs.Unrefused.{Unrefused}
 use Rattle.drainage.specs.Sheet.{lentIn}
 
 module _ {A : Type 0} where
@@ -34,7 +34,7 @@ place-at xs d g j h l =
     ∙ cut-at xs (d * 64) 64 (32 * g + j) 0 (omega arith)
     ∙ ap (λ (k : ℕ). getD xs k 0) (let z : d * 64 + (32 * g + j) ≡ 32 * (2 * d + g) + j = omega arith in z)
 
-module _ (c : Call) (x : Accepted c) (d : ℕ) (h : d < c .devices) where
+module _ (c : Call) (x : Unrefused c) (d : ℕ) (h : d < c .devices) where
   count-at : (g : ℕ) → g < 2 → getD (cut (c .checks .counts) (d * 2) (d * 2 + 2)) g 0 ≡ getD (c .checks .counts) (2 * d + g) 0
   count-at g l = cut-at (c .checks .counts) (d * 2) 2 g 0 l ∙ ap (λ (k : ℕ). getD (c .checks .counts) k 0) (let z : d * 2 + g ≡ 2 * d + g = omega arith in z)
 
@@ -52,7 +52,7 @@ module _ (c : Call) (x : Accepted c) (d : ℕ) (h : d < c .devices) where
         drifts-kept = cut-long (cut (c .checks .drifts) (d * 64) (d * 64 + 64)) (32 * g) 32 (omega arith);
         inside = λ j m.
             subst (λ (p : ℕ). p ≤ c .intervals) (sym (place-at (c .checks .positions) d g j l (omega arith)))
-            (x .place-most (2 * d + g) j i (omega arith));
+            (x .position-most (2 * d + g) j i (omega arith));
         rising = λ j n m o.
             subst₂ (λ (p q : ℕ). p < q) (sym (place-at (c .checks .positions) d g j l (omega arith))) (sym (place-at (c .checks .positions) d g n l (omega arith)))
             (x .positions-rise (2 * d + g) j n i m (omega arith));
@@ -71,7 +71,7 @@ module _ (c : Call) (x : Accepted c) (d : ℕ) (h : d < c .devices) where
         in-range = subst (InRange (seriesPart (c .series) (c .intervals) d)) (sym n) (part-in-range (c .series) (c .devices) (c .intervals) d h (x .in-range));
       }
 
-pub sound : (c : Call) → Accepted c → Sound (lentIn c) (c .devices)
+pub sound : (c : Call) → Unrefused c → Sound (lentIn c) (c .devices)
 sound c x =
     let s = x .shape in
     record {

@@ -5,15 +5,16 @@ use mathlib.Core.Path.{_≡_}
 use mathlib.Core.List.{List}
 use lib.IntN.{pos}
 use lib.ListN.{length, getD}
+use Rattle.refusals.specs.declared.Verdict.{Verdict}
+use Rattle.refusals.specs.declared.Verdict.the-variants.{Clean, Refused as Offended}
+use Rattle.refusals.specs.declared.Told.{Told}
+use Rattle.refusals.specs.Table.{toldOf, nothing}
+use Rattle.steps.specs.Step.{Tells}
 use Rattle.drainage_outcomes.specs.Outcomes.{counted}
 use Rattle.balance.specs.Balance.{destroyedOf, uncombustedOf}
 use Rattle.drainage_exact.specs.Exact.{Used, Fair, exactReduction, promised}
 use Rattle.drainage_judge.specs.Call.{Call}
-use Rattle.drainage_judge.specs.Steps.{judged, stepsOf, numberOf, deviceOf, placeOf}
-use Rattle.drainage_judge.specs.Accepted.{AllClear, Refuses}
-use Rattle.drainage_judge.specs.declared.Refusal.{Refusal}
-use Rattle.drainage_judge.specs.declared.Verdict.{Verdict}
-use Rattle.drainage_judge.specs.declared.Verdict.the-variants.{Clean, Refused as Offended}
+use Rattle.drainage_judge.specs.Order.{judged, stepsOf}
 use Rattle.figures.specs.declared.Figures.{Figures}
 use Rattle.drainage.specs.declared.Answer.{Answer}
 use Rattle.drainage.specs.declared.Answer.the-variants.{Accepted, Refused}
@@ -21,34 +22,20 @@ use Rattle.drainage_devices.specs.Devices.{Lent, Rows, rowsOf}
 use Rattle.drainage_devices.specs.Totals.{kindIn, litresIn}
 use Rattle.drainage.specs.Sheet.{figuresOf, lentIn}
 
--- Demand 1: accepted exactly if no check is offended, else refused with the first offended check and its first offender
+-- Rules 5.2 and 5.3, demand 1: accepted exactly if no step is offended, else refused by the first offended step's first offender.
 unfoldable pub answerBy : Verdict → Call → Answer
 answerBy Clean c = Accepted (figuresOf c)
 answerBy (Offended r) c = Refused r
 
--- Demand 2: the rows of an accepted call; "The result rows keep every entry" of a refused one
+-- Rules 8.4 and 5.5, demand 2: the rows of an accepted call are written; a refused one leaves them.
 unfoldable pub rowsBy : Verdict → Call → Rows → Rows
 rowsBy Clean c before = rowsOf (lentIn c) (c .devices)
 rowsBy (Offended r) c before = before
 
--- document 01's numbers for an answer: "The answer is the number, the device and the place of the first offender"; 0 where
--- nothing is refused
-abbrev pub numberIn : Answer → ℕ
-numberIn (Accepted f) = 0
-numberIn (Refused r) = numberOf r
-
-abbrev pub deviceIn : Answer → ℕ
-deviceIn (Accepted f) = 0
-deviceIn (Refused r) = deviceOf r
-
-abbrev pub placeIn : Answer → ℕ
-placeIn (Accepted f) = 0
-placeIn (Refused r) = placeOf r
-
--- the answer's numbers are those of the first offended step's first offender, or 0 if no step is offended
-pub record Told (c : Call) (a : Answer) : Type 0 where
-  pub clear : AllClear (stepsOf c) → (numberIn a ≡ 0) × (deviceIn a ≡ 0) × (placeIn a ≡ 0)
-  pub offended : (r : Refusal) → Refuses (stepsOf c) r → (numberIn a ≡ numberOf r) × (deviceIn a ≡ deviceOf r) × (placeIn a ≡ placeOf r)
+-- rules 5.4 and 5.7: the number, the device and the place of an answer, three zeros where nothing is refused
+abbrev pub toldIn : Answer → Told
+toldIn (Accepted f) = nothing
+toldIn (Refused r) = toldOf r
 
 -- the values used, "replacements included, as given": what stands in the result rows, beside temperature, pressure, kinds and
 -- fuel as lent
@@ -72,7 +59,8 @@ pub record Settled (c : Call) (before after : Rows) (a : Answer) : Type 0 where
   -- demands 1 and 2: the answer with every figure, and every entry of the three rows, of refused calls too
   pub answer : a ≡ answerBy (judged c) c
   pub rows : after ≡ rowsBy (judged c) c before
-  pub told : Told c a
+  -- told with the number, the device and the place of the first offended step's first offender
+  pub told : Tells (stepsOf c) (toldIn a)
   -- demand 3, of every accepted call: the reported tonnes never exceed the exact reduction over the values used, and fall
   -- short by less than 1 tonne and the promised grams
   pub fair : (f : Figures) → a ≡ Accepted f → Fair (exactReduction (usedIn c after)) (f .tonnes) (promised (usedIn c after))

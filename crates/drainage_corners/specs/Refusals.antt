@@ -5,39 +5,45 @@ use mathlib.Core.Path.{_≡_, refl}
 use mathlib.Core.List.{List, [], _∷_, _++_}
 use lib.IntN.{pos}
 use lib.ListN.{replicate}
-use Rattle.drainage_readings.specs.Readings.{wrongReading}
-use Rattle.scans.specs.Wrong.{wrongCheck, wrongThing, wrongFuel}
-use Rattle.drainage_judge.specs.Call.{Call}
-use Rattle.drainage_judge.specs.Steps.{numberOf, verdictOf, intervalsStep, devicesStep, lengthsOf, wantedOf, lengthsStep, mineStep, kindsStep, misplacedStep, checksStep, readingsStep, fuelsStep, judged}
-use Rattle.drainage_judge.specs.declared.Refusal.the-variants.{Intervals, Devices, Lengths, Mine, Kind, Misplaced, Check, Reading, Fuel}
-use Rattle.drainage_judge.specs.declared.Verdict.the-variants.{Clean, Refused}
+use Rattle.refusals.specs.declared.Refusal.{Refusal}
+use Rattle.refusals.specs.declared.Refusal.the-variants.{Intervals, Devices, Lengths, Mine, Kind, Misplaced, Check, Reading, Fuel}
+use Rattle.refusals.specs.declared.Verdict.the-variants.{Clean, Refused}
+use Rattle.refusals.specs.Table.{toldOf}
+use Rattle.steps.specs.Step.{verdictOf}
+use Rattle.steps.specs.Wrong.{wrongCheck, wrongThing, wrongFuel}
+use Rattle.steps.specs.Steps.{intervalsStep, devicesStep, lengthsStep, mineStep, kindsStep, misplacedStep, checksStep, fuelsStep}
+use Rattle.drainage_readings.specs.Readings.{wrongReading, readingsStep}
+use Rattle.drainage_judge.specs.Order.{lengthsOf, judged}
 use Rattle.drainage_corners.specs.Calls.{worked, injected, stopped, checked, counted, gapped}
 
--- document 01's numbers
+-- the numbers that this call gives
+number : Refusal → ℕ
+number r = toldOf r .number
+
 numbers : List ℕ
 numbers =
-    numberOf Intervals ∷ numberOf Devices ∷ numberOf Lengths ∷ numberOf Mine ∷ numberOf (Kind 1) ∷ numberOf (Misplaced 1) ∷ numberOf (Check 1 2) ∷ numberOf (Reading 1 2)
-    ∷ numberOf (Fuel 2) ∷ []
+    number Intervals ∷ number Devices ∷ number Lengths ∷ number Mine ∷ number (Kind 1) ∷ number (Misplaced 1) ∷ number (Check 1 2)
+    ∷ number (Reading 1 2) ∷ number (Fuel 2) ∷ []
 
 one-to-nine : numbers ≡ 1 ∷ 2 ∷ 3 ∷ 4 ∷ 5 ∷ 6 ∷ 7 ∷ 8 ∷ 9 ∷ []
-unfolding numbers
+unfolding numbers number
 one-to-nine = refl
 
 -- nothing is wrong with the calls that rows and figures are computed on, a check at N among them
 right : (judged worked ≡ Clean) × (judged injected ≡ Clean) × (judged (stopped (1 ∷ []) (1 ∷ [])) ≡ Clean) × (judged (gapped 16) ≡ Clean)
     × (judged (checked 0 1 (pos 0) (pos 0)) ≡ Clean)
-unfolding judged verdictOf intervalsStep devicesStep lengthsOf wantedOf lengthsStep mineStep kindsStep misplacedStep wrongCheck wrongThing checksStep wrongReading readingsStep wrongFuel fuelsStep
+unfolding judged verdictOf intervalsStep devicesStep lengthsOf lengthsStep mineStep kindsStep misplacedStep wrongCheck wrongThing checksStep wrongReading readingsStep wrongFuel fuelsStep
 right = (refl, refl, refl, refl, refl)
 
 -- A check past N; a wrong count before its wrong entry; a wrong flow entry before a wrong count of CH4.
 checks : (judged (checked 0 2 (pos 0) (pos 0)) ≡ Refused (Check 0 1))
     × (judged (counted (33 ∷ 0 ∷ []) (9 ∷ []) (pos 30000 ∷ [])) ≡ Refused (Check 0 32))
     × (judged (counted (1 ∷ 33 ∷ []) (0 ∷ []) (pos 20001 ∷ [])) ≡ Refused (Check 0 0))
-unfolding judged verdictOf intervalsStep devicesStep lengthsOf wantedOf lengthsStep mineStep kindsStep misplacedStep wrongCheck wrongThing checksStep wrongReading readingsStep wrongFuel fuelsStep
+unfolding judged verdictOf intervalsStep devicesStep lengthsOf lengthsStep mineStep kindsStep misplacedStep wrongCheck wrongThing checksStep wrongReading readingsStep wrongFuel fuelsStep
 checks = (refl, refl, refl)
 
 -- 65 quantities beside 64 factors are 3; the last of 64 lines wrong is 9 at 63.
 fuels : (judged (stopped (replicate 65 0) (replicate 64 0)) ≡ Refused Lengths)
     × (judged (stopped (replicate 63 0 ++ (1000000001 ∷ [])) (replicate 64 0)) ≡ Refused (Fuel 63))
-unfolding judged verdictOf intervalsStep devicesStep lengthsOf wantedOf lengthsStep mineStep kindsStep misplacedStep wrongCheck wrongThing checksStep wrongReading readingsStep wrongFuel fuelsStep
+unfolding judged verdictOf intervalsStep devicesStep lengthsOf lengthsStep mineStep kindsStep misplacedStep wrongCheck wrongThing checksStep wrongReading readingsStep wrongFuel fuelsStep
 fuels = (refl, refl)

@@ -1,4 +1,4 @@
 pub mod Call
-pub mod Steps
-pub mod Accepted
+pub mod Order
+pub mod Shape
 pub mod Examples

@@ -3,9 +3,7 @@ use mathlib.Core.Path.{_≡_, refl, sym, ap, _∙_, subst}
 use lib.ListN.{length}
 use Rattle.columns.specs.Series.{seriesNow, checksNow, fuelNow}
 use Rattle.drainage_judge.specs.Call.{Call}
-use Rattle.drainage_judge.specs.Steps.{judged}
-use Rattle.drainage_judge.specs.declared.Verdict.the-variants.{Clean}
-use Rattle.drainage_judge.proofs.Laws.{accepted}
+use Rattle.drainage_judge.proofs.Unrefused.{unrefused}
 use Rattle.drainage_devices.specs.Devices.{Rows}
 use Rattle.figures.specs.declared.Figures.{Figures}
 use Rattle.drainage.specs.declared.Answer.the-variants.{Accepted}
@@ -50,7 +48,8 @@ enum-known-verdict c = search needs
 
 returns : tie.Need-returns
 unfolding call rows
-returns c = settled-refused (call (start·returns c)) (rows (start·returns c)) _ (sym (judge·returns c .judge .ensures) ∙ verdict·returns c .verdict .given .1)
+returns c =
+    settled-refused (call (start·returns c)) (rows (start·returns c)) _ (sym (judge·returns c .judge .ensures .verdict) ∙ verdict·returns c .verdict .given .1)
 
 enum-told : tie.Need-enum-told
 enum-told c = search needs
@@ -58,20 +57,21 @@ enum-told c = search needs
 fill-rows-requires : tie.Need-fill-rows-requires
 unfolding call rows
 fill-rows-requires c κs =
-    let x = (accepted (call (start·fill-rows-requires c)) (sym (judge·fill-rows-requires c .judge .ensures) ∙ enum-told·fill-rows-requires
+    let x = (unrefused (call (start·fill-rows-requires c)) (sym (judge·fill-rows-requires c .judge .ensures .verdict) ∙ enum-told·fill-rows-requires
     c .enum-told .given .1)) in (sound (call (start·fill-rows-requires c)) x, x .outcome-long, x .flow-row-long, x .content-row-long)
 
 fuel-requires : tie.Need-fuel-requires
 unfolding call rows
 fuel-requires c κs =
-    let x = (accepted (call (start·fuel-requires c)) (sym (judge·fuel-requires c .judge .ensures) ∙ enum-told·fuel-requires c .enum-told .given .1)) in
+    let x = (unrefused (call (start·fuel-requires c)) (sym (judge·fuel-requires c .judge .ensures .verdict) ∙ enum-told·fuel-requires
+    c .enum-told .given .1)) in
     x .burnable
 
 sheet-requires : tie.Need-sheet-requires
 unfolding call rows
 sheet-requires c κs =
-    moderate-call (call (start·sheet-requires c)) (accepted (call (start·sheet-requires c))
-    (sym (judge·sheet-requires c .judge .ensures) ∙ enum-told·sheet-requires c .enum-told .given .1)) _ _
+    moderate-call (call (start·sheet-requires c)) (unrefused (call (start·sheet-requires c))
+    (sym (judge·sheet-requires c .judge .ensures .verdict) ∙ enum-told·sheet-requires c .enum-told .given .1)) _ _
     (fill-rows·sheet-requires c .fill-rows .ensures .totals) (c .fuel .ensures .1)
 
 same-length : tie.Need-same-length
@@ -88,7 +88,7 @@ unfolding call rows
 returns-2 c = let s = start·returns-2 c in
     let w = fill-rows·returns-2 c .fill-rows .ensures in
     settled-made (call s) (rows s) _ _ _ (fill-rows·returns-2 c .fill-rows .result) (c .sheet .result)
-    (sym (judge·returns-2 c .judge .ensures) ∙ enum-told·returns-2 c .enum-told .given .1) w
+    (sym (judge·returns-2 c .judge .ensures .verdict) ∙ enum-told·returns-2 c .enum-told .given .1) w
     (sheet-is (call s) (fill-rows·returns-2 c .fill-rows .result) (fuel·returns-2 c .fuel .result) (c .sheet .result) (c .sheet .ensures) (w .totals)
     (fuel·returns-2 c .fuel .ensures .0))
 

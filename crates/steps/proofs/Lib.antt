@@ -1,0 +1,3 @@
+pub mod Verdicts
+pub mod Tests
+pub mod Clear

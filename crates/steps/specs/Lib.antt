@@ -1,0 +1,4 @@
+pub mod Step
+pub mod Wrong
+pub mod Steps
+pub mod Scans
