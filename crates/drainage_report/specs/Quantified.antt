@@ -7,7 +7,7 @@ use lib.ListN.{length, take, drop}
 use Rattle.protocol.specs.Ranges.{intervalsMost, devicesMost}
 use Rattle.columns.specs.Series.{FuelRoom, ChecksRoom, Room, seriesTake, checksTake, fuelTake}
 use Rattle.drainage_judge.specs.Call.{Call}
-use Rattle.drainage_judge.specs.Steps.{judged}
+use Rattle.drainage_judge.specs.Order.{judged}
 use Rattle.drainage_devices.specs.Devices as Devices
 use Rattle.drainage.specs.Promise.{answerBy, rowsBy}
 use Rattle.drainage.specs.declared.Answer.{Answer}
@@ -53,7 +53,7 @@ callOf h r results =
       content-row-length = partOf m (results .content);
     }
 
--- Document 01's answer to that call, the parts of the result rows that it was lent after it, and the whole rows.
+-- The answer to that call, the parts of the result rows that it was lent after it, and the whole rows.
 unfoldable pub answerTo : Header → Rows → Devices.Rows → Answer
 answerTo h r results = answerBy (judged (callOf h r results)) (callOf h r results)
 
