@@ -72,8 +72,8 @@ module _ (t : List ℕ) (m : ℕ) where
   headed-cut n d b = begins-cut _ b
 
   -- A cut text that is shorter than the cut is the whole text.
-  short-whole : length (take m t) < m → t ≡ take m t
-  short-whole h = sym (take-all m t (omega (arith, length-take m t)))
+  short-all : length (take m t) < m → t ≡ take m t
+  short-all h = sym (take-all m t (omega (arith, length-take m t)))
 
   module _ (room : ℕ) (long : 61 * room + 35972 < m) where
     pub cut-headed : (n d : ℕ) → Headed t n d → Headed (take m t) n d
@@ -89,7 +89,7 @@ module _ (t : List ℕ) (m : ℕ) where
     cut-record ls fine h e = take-all m t (omega (arith, record-fits t room ls fine h e))
 
     pub record-cut : (ls : List Line) → Fine (take m t) room → Record ls → take m t ≡ textOf ls → t ≡ take m t
-    record-cut ls fine h e = short-whole (omega (arith, record-fits (take m t) room ls fine h e))
+    record-cut ls fine h e = short-all (omega (arith, record-fits (take m t) room ls fine h e))
 
     -- The same of "is a record file".
     pub cut-is-record : Fine t room → IsRecord t → IsRecord (take m t)

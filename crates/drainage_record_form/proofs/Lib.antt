@@ -8,3 +8,4 @@ pub mod Parts
 pub mod Longest
 pub mod Cut
 pub mod Covered
+pub mod Once

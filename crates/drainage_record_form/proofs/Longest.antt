@@ -12,7 +12,7 @@ use lib.ListN.{length, take, length-append}
 use lib.Seq.{take-append-seam, take-take}
 use Rattle.rows.specs.Rows.{pick}
 use Rattle.rows.proofs.Laws.{both-true}
-use Rattle.protocol.specs.Ranges.{fromOne, intervalsMost, devicesMost}
+use Rattle.protocol.specs.Ranges.{fromOne, intervalsMost, devicesMost, checksMost, deviceChecks, fuelsMost}
 use Rattle.text.specs.Decimal.{Range, Fit, decimal}
 use Rattle.text.proofs.Decimals.{tens, dec-length}
 use Rattle.drainage_record_form.specs.Field as Field
@@ -167,16 +167,20 @@ counted : (f : Field) (z : ℤ) (most : ℕ) → rangeOf f .most ≡ most → Fi
 counted f (pos n) most e h = omega (arith, h .1)
 counted f (negsuc n) most e h = omega arith
 
--- 45 bytes, 32 checks of either kind, and the entries
+-- 45 bytes, the checks of either instrument, and the entries
 device-short : (n d : ℕ) → Part (deviceLines n d) (Short (n * 61 + 2093))
 device-short n d =
     ask-short (Field.kind d) _ (n * 61 + 2077) (n * 61 + 2093) (omega arith) (λ k hk.
     ask-short (Field.flow-checks d) _ (n * 61 + 2062) (n * 61 + 2077) (omega arith) (λ c hc.
-    join-short (times (natural c) (λ j. checkLines (64 * d + j))) (fromContentChecks n d) (32 * 32) (n * 61 + 1038) (n * 61 + 2062) (omega arith)
-    (times-most (λ j. checkLines (64 * d + j)) 32 (natural c) 32 (counted (Field.flow-checks d) c 32 refl hc) (λ j. check-short (64 * d + j)))
+    join-short (times (natural c) (λ j. checkLines (deviceChecks * d + j))) (fromContentChecks n d) (checksMost * 32) (n * 61 + 1038) (n * 61 + 2062)
+    (omega arith)
+    (times-most (λ j. checkLines (deviceChecks * d + j)) 32 (natural c) checksMost (counted (Field.flow-checks d) c checksMost refl hc)
+    (λ j. check-short (deviceChecks * d + j)))
     (ask-short (Field.content-checks d) _ (n * 61 + 1024) (n * 61 + 1038) (omega arith) (λ e he.
-    join-short (times (natural e) (λ j. checkLines (64 * d + 32 + j))) (deviceEntries n d) (32 * 32) (n * 61) (n * 61 + 1024) (omega arith)
-    (times-most (λ j. checkLines (64 * d + 32 + j)) 32 (natural e) 32 (counted (Field.content-checks d) e 32 refl he) (λ j. check-short (64 * d + 32 + j)))
+    join-short (times (natural e) (λ j. checkLines (deviceChecks * d + checksMost + j))) (deviceEntries n d) (checksMost * 32) (n * 61) (n * 61 + 1024)
+    (omega arith)
+    (times-most (λ j. checkLines (deviceChecks * d + checksMost + j)) 32 (natural e) checksMost (counted (Field.content-checks d) e checksMost refl he)
+    (λ j. check-short (deviceChecks * d + checksMost + j)))
     (times-short (λ i. entryLines (d * n + i)) 61 n (λ i. entry-short (d * n + i)))))))
 
 -- what comes after the first two lines
@@ -184,13 +188,13 @@ body-short : (n d : ℕ) → Part (fromMine n d) (Short (d * (n * 61 + 2093) + 2
 body-short n d =
     ask-short Field.mine _ (d * (n * 61 + 2093) + 2441) (d * (n * 61 + 2093) + 2457) (omega arith) (λ m hm.
     ask-short Field.fuels _ (d * (n * 61 + 2093) + 2432) (d * (n * 61 + 2093) + 2441) (omega arith) (λ f hf.
-    join-short (times (natural f) fuelLines) (times d (deviceLines n)) (64 * 38) (d * (n * 61 + 2093)) (d * (n * 61 + 2093) + 2432) (omega arith)
-    (times-most fuelLines 38 (natural f) 64 (counted Field.fuels f 64 refl hf) fuel-short)
+    join-short (times (natural f) fuelLines) (times d (deviceLines n)) (fuelsMost * 38) (d * (n * 61 + 2093)) (d * (n * 61 + 2093) + 2432) (omega arith)
+    (times-most fuelLines 38 (natural f) fuelsMost (counted Field.fuels f fuelsMost refl hf) fuel-short)
     (times-short (deviceLines n) (n * 61 + 2093) d (device-short n))))
 
 -- 27 bytes of the first two lines
-whole : (n d room a b c : ℕ) → d ≤ 16 → n * d ≤ room → a ≤ 16 → b ≤ 11 → c ≤ d * (n * 61 + 2093) + 2457 → a + (b + c) ≤ 61 * room + 35972
-whole n d room a b c hd hr ha hb hc = omega arith
+file-short : (n d room a b c : ℕ) → d ≤ devicesMost → n * d ≤ room → a ≤ 16 → b ≤ 11 → c ≤ d * (n * 61 + 2093) + 2457 → a + (b + c) ≤ 61 * room + 35972
+file-short n d room a b c hd hr ha hb hc = omega arith
 
 from-one : (most n : ℕ) → fromOne most n ≡ true → n ≤ most
 from-one most n e = leb-true n most (both-true (leb 1 n) (leb n most) e .1)
@@ -202,7 +206,7 @@ record-longest n d room ls h l =
     let a : List ℕ = lineText Field.intervals (pos n) in
     let b : List ℕ = lineText Field.devices (pos d) in
     rw (length-append a (b ++ textOf ls), length-append b (textOf ls))
-    (whole n d room (length a) (length b) (length (textOf ls)) (from-one devicesMost d (l .devices)) (l .entries)
+    (file-short n d room (length a) (length b) (length (textOf ls)) (from-one devicesMost d (l .devices)) (l .entries)
     (line-by Field.intervals 10 5 (pos n) refl (dec-length 4 n (omega (arith, from-one intervalsMost n (l .intervals)))))
     (line-by Field.devices 8 2 (pos d) refl (dec-length 1 d (omega (arith, from-one devicesMost d (l .devices)))))
     (part-all (fromMine n d) (Short (d * (n * 61 + 2093) + 2457)) ls (body-short n d) (after-head n d ls h) .short))

@@ -1,4 +1,4 @@
--- Document 01's worked example: its input as lines and as text, and what lines leave in rows.
+-- The worked example (rule 14.1): its input as lines and as text, and what lines leave in rows.
 -- Assumes nothing.
 use mathlib.Core.Path.{_≡_, refl}
 use mathlib.Core.List.{List, [], _∷_}
@@ -62,7 +62,7 @@ worked-stored : stored worked blank ≡ record {
 }
 worked-stored = refl
 
--- "An empty value in flow, ch4, temp or press means missing": the mark is entered.
+-- An empty value means missing: the mark is entered (rules 12.3 and 12.11).
 abbrev gap : List Line
 gap =
     lineIs (Field.flow 1) (pos 65535)

@@ -1,3 +1,4 @@
 pub mod Steps
 pub mod OneDevice
 pub mod DevicesLoop
+pub mod Settled

@@ -15,18 +15,23 @@ use Rattle.text.specs.Line.{lineOf}
 use Rattle.text.specs.Answer.{Put, Leads}
 use Rattle.text.proofs.Decimals.{dec-20}
 use Rattle.text.proofs.Writing.{put-join, put-leads, line-length}
-use Rattle.sheet_text.specs.Sheet.{textOf}
+use Rattle.sheet_text.specs.Sheet.{textOf, sheetMost}
+use Rattle.sheet_text.specs.Write as Write
 use Rattle.sheet_text.specs.Write.{WriteRight}
 use Rattle.sheet_text.specs.declared.WriteAnswer.{WriteAnswer}
 use Rattle.sheet_text.specs.declared.WriteAnswer.the-variants as WriteAnswer
+use denote.Enum.Declared.{tagOf}
+use Rattle.sheet_text.proofs.WriteAnswer as WriteAnswerType
 use Rattle.figures.specs.declared.Figures.{Figures}
 use Rattle.drainage.specs.declared.Answer.{Answer}
 use Rattle.drainage.specs.declared.Answer.the-variants as Answer
-use Rattle.drainage_judge.specs.Steps as Steps
-use Rattle.drainage_judge.specs.declared.Refusal.{Refusal}
+use Rattle.refusals.specs.declared.Refusal.{Refusal}
+use Rattle.refusals.specs.declared.Refusal.the-variants as Refusal
+use Rattle.refusals.specs.declared.Told.{Told}
+use Rattle.refusals.specs.Table.{told, toldOf}
 use Rattle.columns.specs.Series.{seriesTake, checksTake, fuelTake}
 use Rattle.drainage_judge.specs.Call.{Call}
-use Rattle.drainage_judge.specs.Steps.{judged}
+use Rattle.drainage_judge.specs.Order.{judged}
 use Rattle.protocol.specs.Ranges.{devicesMost}
 use Rattle.drainage_devices.specs.Devices.{Results, accountSize}
 use Rattle.drainage.specs.Promise.{Settled, answerBy, resultsBy}
@@ -42,11 +47,11 @@ line-most key v h = omega (arith, line-length key (pos v), dec-20 v h)
 module _ (number device place : ℕ) (old one two new : List ℕ) (p q n : ℕ)
     (a : Put old 0 (lineOf (bytes "refusal=") (pos number)) one p) where
   pub refusal-leads : Put one p (lineOf (bytes "device=") (pos device)) two q → Put two q (lineOf (bytes "place=") (pos place)) new n
-      → number < 18446744073709551616 → device < 18446744073709551616 → place < 18446744073709551616 → 465 ≤ length old
-      → Leads (refusalText number device place) old new n
+      → number < 18446744073709551616 → device < 18446744073709551616 → place < 18446744073709551616 → sheetMost ≤ length old
+      → Leads (refusalText (told number device place)) old new n
   unfolding refusalText
   refusal-leads b c hn hd hp room =
-      put-leads (lineOf (bytes "refusal=") (pos number) ++ (lineOf (bytes "device=") (pos device) ++ lineOf (bytes "place=") (pos place))) old new n whole
+      put-leads (lineOf (bytes "refusal=") (pos number) ++ (lineOf (bytes "device=") (pos device) ++ lineOf (bytes "place=") (pos place))) old new n joined
       (omega (
         arith,
         length-append (lineOf (bytes "refusal=") (pos number)) (lineOf (bytes "device=") (pos device) ++ lineOf (bytes "place=") (pos place)),
@@ -56,8 +61,8 @@ module _ (number device place : ℕ) (old one two new : List ℕ) (p q n : ℕ)
         line-most (bytes "place=") place hp,
       ))
     where
-      whole : Put old 0 (lineOf (bytes "refusal=") (pos number) ++ (lineOf (bytes "device=") (pos device) ++ lineOf (bytes "place=") (pos place))) new n
-      whole =
+      joined : Put old 0 (lineOf (bytes "refusal=") (pos number) ++ (lineOf (bytes "device=") (pos device) ++ lineOf (bytes "place=") (pos place))) new n
+      joined =
           subst (λ (w : List ℕ). Put old 0 w new n) (append-assoc (lineOf (bytes "refusal=") (pos number)) (lineOf (bytes "device=") (pos device)) (lineOf (bytes "place=") (pos place)))
           (put-join old two new (lineOf (bytes "refusal=") (pos number) ++ lineOf (bytes "device=") (pos device)) (lineOf (bytes "place=") (pos place)) 0 q n
           (put-join old one two (lineOf (bytes "refusal=") (pos number)) (lineOf (bytes "device=") (pos device)) 0 p q a b) c)
@@ -68,20 +73,16 @@ module _ (a : Answer) (old new : List ℕ) (n : ℕ) where
   pub sheet-leads : (f : Figures) (w : WriteAnswer) → a ≡ Answer.Accepted f → w ≡ WriteAnswer.Written n → WriteRight f old new w → Leads (printed a) old new n
   sheet-leads f w e g r = subst (λ (x : Answer). Leads (printed x) old new n) (sym e) (subst (WriteRight f old new) g r)
 
-  -- A sheet has at most 465 bytes.
-  pub never-short : (f : Figures) (w : WriteAnswer) (k : ℕ) → w ≡ WriteAnswer.TooShort k → WriteRight f old new w → 465 ≤ length old → ⊥
-  never-short f w k g r h = impossible (subst (WriteRight f old new) g r)
+  -- A sheet has at most sheetMost bytes.
+  pub never-short : (f : Figures) (w : WriteAnswer) → tagOf WriteAnswerType.the-type w ≡ 1 → WriteRight f old new w → sheetMost ≤ length old → ⊥
+  never-short f (WriteAnswer.Written k) tag r h = omega (arith, tag)
+  never-short f (WriteAnswer.Refused r) tag x h = impossible r x
     where
-      impossible : WriteRight f old new (WriteAnswer.TooShort k) → ⊥
-      impossible s = omega (arith, s .short, s .most)
+      impossible : (r : Refusal) → Write.Refused f old new r → ⊥
+      impossible (Refusal.ShortBuffer k) (Write.Refused.shortBuffer s) = omega (arith, s .short, s .most)
 
-  pub answer-leads : (r : Refusal) (number device place : ℕ) → a ≡ Answer.Refused r → number ≡ Steps.numberOf r → device ≡ Steps.deviceOf r → place ≡ Steps.placeOf r
-      → Leads (refusalText number device place) old new n → Leads (printed a) old new n
-  answer-leads r number device place e x y z l =
-      subst (λ (b : Answer). Leads (printed b) old new n) (sym e)
-      (subst (λ (i : ℕ). Leads (refusalText (Steps.numberOf r) (Steps.deviceOf r) i) old new n) z
-      (subst (λ (i : ℕ). Leads (refusalText (Steps.numberOf r) i place) old new n) y
-      (subst (λ (i : ℕ). Leads (refusalText i device place) old new n) x l)))
+  pub answer-leads : (r : Refusal) (x : Told) → a ≡ Answer.Refused r → x ≡ toldOf r → Leads (refusalText x) old new n → Leads (printed a) old new n
+  answer-leads r x e y l = subst (λ (b : Answer). Leads (printed b) old new n) (sym e) (subst (λ (z : Told). Leads (refusalText z) old new n) y l)
 
 -- ---- the call that a record makes
 

@@ -1,3 +1,3 @@
 pub mod Laws
-pub mod Whole
+pub mod Job
 pub mod Settled

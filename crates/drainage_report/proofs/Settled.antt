@@ -12,7 +12,7 @@ use Rattle.drainage_record.specs.declared.ReadAnswer.{ReadAnswer}
 use Rattle.drainage_record.proofs.Beginning.{read-cut}
 use Rattle.drainage_record.proofs.Settled.{read-once}
 use Rattle.drainage_report.specs.Report.{Lent, readerRows, outputOf, resultsOf, AsLong, Whatever, Reported}
-use Rattle.drainage_report.proofs.Whole.{same-room, lentAs}
+use Rattle.drainage_report.proofs.Job.{same-room, lentAs}
 
 -- The same text at the start of the same buffer.
 leads-once : (w old new₁ new₂ : List ℕ) (n₁ n₂ : ℕ) → Leads w old new₁ n₁ → Leads w old new₂ n₂ → (new₁ ≡ new₂) × (n₁ ≡ n₂)
@@ -42,11 +42,11 @@ report-cut t m before after old new n long x =
       written = x .written;
       lent = x .lent;
       settled = x .settled;
-      whatever = λ k e. whole k e (x .whatever k e);
+      whatever = λ k e. cut-other k e (x .whatever k e);
     }
   where
-    whole : (k : Lent) → AsLong k before → Whatever (take m t) k (outputOf (x .answer) (x .rows) before) → Whatever t k (outputOf (x .answer) (x .rows) before)
-    whole k e w =
+    cut-other : (k : Lent) → AsLong k before → Whatever (take m t) k (outputOf (x .answer) (x .rows) before) → Whatever t k (outputOf (x .answer) (x .rows) before)
+    cut-other k e w =
         record {
           answer = w .answer;
           rows = w .rows;

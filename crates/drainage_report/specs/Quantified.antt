@@ -7,7 +7,7 @@ use lib.ListN.{length, take, drop, replicate}
 use Rattle.protocol.specs.Ranges.{intervalsMost, devicesMost}
 use Rattle.columns.specs.Series.{FuelRoom, ChecksRoom, Room, seriesTake, checksTake, fuelTake}
 use Rattle.drainage_judge.specs.Call.{Call}
-use Rattle.drainage_judge.specs.Steps.{judged}
+use Rattle.drainage_judge.specs.Order.{judged}
 use Rattle.drainage_devices.specs.Devices.{Results, accountSize}
 use Rattle.drainage.specs.Promise.{answerBy, resultsBy}
 use Rattle.drainage.specs.declared.Answer.{Answer}

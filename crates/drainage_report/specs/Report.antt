@@ -10,14 +10,16 @@ use Rattle.text.specs.Decimal.{dec}
 use Rattle.text.specs.Line.{lineOf}
 use Rattle.text.specs.Answer.{Leads}
 use Rattle.sheet_text.specs.Sheet.{textOf}
-use Rattle.drainage_judge.specs.Steps as Steps
+use Rattle.refusals.specs.declared.Refusal.the-variants as Refusal
+use Rattle.refusals.specs.declared.Told.{Told}
+use Rattle.refusals.specs.Table.{toldOf}
+use Rattle.protocol.specs.Ranges.{devicesMost, deviceChecks, fuelsMost}
 use Rattle.columns.specs.Series as Series
 use Rattle.columns.specs.Series.{Series, checksOf, fuelOf}
 use Rattle.drainage.specs.Promise.{Settled}
 use Rattle.drainage.specs.declared.Answer.{Answer}
 use Rattle.drainage.specs.declared.Answer.the-variants as Answer
 use Rattle.drainage_record_form.specs.Rows.{Rows}
-use Rattle.drainage_record.specs.Read as Read
 use Rattle.drainage_record.specs.Read.{ReadRight}
 use Rattle.drainage_record.specs.declared.ReadAnswer.{ReadAnswer}
 use Rattle.drainage_record.specs.declared.ReadAnswer.the-variants as ReadAnswer
@@ -25,14 +27,14 @@ use Rattle.drainage_record.specs.declared.Header.{Header}
 use Rattle.drainage_report.specs.Quantified.{ResultRows, callOf, partsOf, partsAfter, answerTo, resultsAfter}
 
 -- the three lines of a refusal (rule 13.2)
-unfoldable pub refusalText : ℕ → ℕ → ℕ → List ℕ
-refusalText number device place =
-    lineOf (bytes "refusal=") (pos number) ++ (lineOf (bytes "device=") (pos device) ++ lineOf (bytes "place=") (pos place))
+unfoldable pub refusalText : Told → List ℕ
+refusalText a =
+    lineOf (bytes "refusal=") (pos (a .number)) ++ (lineOf (bytes "device=") (pos (a .device)) ++ lineOf (bytes "place=") (pos (a .place)))
 
 -- The text of an answer: the sheet, or the refusal.
 abbrev pub printed : Answer → List ℕ
 printed (Answer.Accepted f) = textOf f
-printed (Answer.Refused r) = refusalText (Steps.numberOf r) (Steps.deviceOf r) (Steps.placeOf r)
+printed (Answer.Refused r) = refusalText (toldOf r)
 
 -- What the caller lends: five series for the record and three result rows.
 pub record Lent : Type 0 where
@@ -43,30 +45,20 @@ pub record Lent : Type 0 where
 unfoldable pub readerRows : Lent → Rows
 readerRows l =
     record {
-      fuel = fuelOf (replicate 64 0) (replicate 64 0);
-      kinds = replicate 16 0;
-      checks = checksOf (replicate 32 0) (replicate 1024 0) (replicate 1024 (pos 0));
+      fuel = fuelOf (replicate fuelsMost 0) (replicate fuelsMost 0);
+      kinds = replicate devicesMost 0;
+      checks = checksOf (replicate (2 * devicesMost) 0) (replicate (deviceChecks * devicesMost) 0) (replicate (deviceChecks * devicesMost) (pos 0));
       series = l .series;
     }
 
--- the reader's refusal, by its number, device and place
-abbrev pub refused : ReadAnswer → List ℕ
-refused a = refusalText (Read.numberOf a) (Read.deviceOf a) (Read.placeOf a)
-
--- What is printed: the reader's refusal, or what quantification answers to the record.
+-- What is printed: what quantification answers to the record, or the reader's refusal (rule 13.5).
 abbrev pub outputOf : ReadAnswer → Rows → Lent → List ℕ
 outputOf (ReadAnswer.Record h) rows l = printed (answerTo h rows (l .results))
-outputOf ReadAnswer.Intervals rows l = refused ReadAnswer.Intervals
-outputOf ReadAnswer.Devices rows l = refused ReadAnswer.Devices
-outputOf ReadAnswer.Room rows l = refused ReadAnswer.Room
-outputOf (ReadAnswer.Line k) rows l = refused (ReadAnswer.Line k)
+outputOf (ReadAnswer.Refused r) rows l = refusalText (toldOf r)
 
 abbrev pub resultsOf : ReadAnswer → Rows → Lent → ResultRows
 resultsOf (ReadAnswer.Record h) rows l = resultsAfter h rows (l .results)
-resultsOf ReadAnswer.Intervals rows l = l .results
-resultsOf ReadAnswer.Devices rows l = l .results
-resultsOf ReadAnswer.Room rows l = l .results
-resultsOf (ReadAnswer.Line k) rows l = l .results
+resultsOf (ReadAnswer.Refused r) rows l = l .results
 
 -- two that lend rows of the same lengths
 pub record AsLong (l k : Lent) : Type 0 where
@@ -97,10 +89,10 @@ pub record Reported (t : List ℕ) (before after : Lent) (old new : List ℕ) (n
   pub whatever : (other : Lent) → AsLong other before → Whatever t other (outputOf answer rows before)
 
 -- a line that is wrong, and a record that is too large, as they are printed
-twelve : refused (ReadAnswer.Line 3) ≡ bytes "refusal=12\ndevice=0\nplace=3\n"
+twelve : refusalText (toldOf (Refusal.Line 3)) ≡ bytes "refusal=12\ndevice=0\nplace=3\n"
 unfolding refusalText dec
 twelve = refl
 
-thirteen : refused ReadAnswer.Room ≡ bytes "refusal=13\ndevice=0\nplace=0\n"
+thirteen : refusalText (toldOf Refusal.Room) ≡ bytes "refusal=13\ndevice=0\nplace=0\n"
 unfolding refusalText dec
 thirteen = refl

@@ -1,6 +1,7 @@
 // Runs the sheet's text over texts on both sides of each rule and prints what document 01 asks: the sheet, or the three lines of a refusal.
 use figures::Figures;
 use libc::STDOUT_FILENO;
+use refusals::Told;
 use sheet_text::ReadAnswer;
 use sheet_text::WriteAnswer;
 ghost use Prim.Native.Nat.{_≤_};
@@ -21,17 +22,17 @@ fn print_line(key: &[u8], v: u64)
     print(&buf, n);
 }
 
-fn print_refusal(number: u64, device: u64, place: usize) {
-    print_line(b"refusal=", number);
-    print_line(b"device=", device);
-    print_line(b"place=", place as u64);
+fn print_refusal(a: Told) {
+    print_line(b"refusal=", a.number);
+    print_line(b"device=", a.device as u64);
+    print_line(b"place=", a.place as u64);
 }
 
 fn print_sheet(f: Figures) {
-    let mut buf = [0u8; 465];
+    let mut buf = [0u8; sheet_text::SHEET_MOST];
     let a = sheet_text::write(f, &mut buf);
     let WriteAnswer::Written(n) = a else {
-        print_refusal(a.number(), a.device(), a.place());
+        print_refusal(a.told());
         return;
     };
     print(&buf, n);
@@ -42,7 +43,7 @@ fn shown(name: &[u8], t: &[u8]) {
     io::write_all(STDOUT_FILENO, name);
     let a = sheet_text::read(t);
     let ReadAnswer::Sheet(f) = a else {
-        print_refusal(a.number(), a.device(), a.place());
+        print_refusal(a.told());
         return;
     };
     print_sheet(f);
@@ -173,7 +174,7 @@ fn worked() -> Figures {
 fn print_written(name: &[u8], a: WriteAnswer, buf: &[u8]) {
     io::write_all(STDOUT_FILENO, name);
     let WriteAnswer::Written(_) = a else {
-        print_refusal(a.number(), a.device(), a.place());
+        print_refusal(a.told());
         io::write_all(STDOUT_FILENO, buf);
         io::write_all(STDOUT_FILENO, b"\n");
         return;

@@ -11,13 +11,19 @@ use lib.IntN.{ℤ, pos}
 use Rattle.text.specs.Form.{RefusedAt}
 use Rattle.text.proofs.Forms.{refused-once}
 use Rattle.text.proofs.Tables.{lines-inj}
+use Rattle.refusals.specs.declared.Refusal.{Refusal}
+use Rattle.refusals.specs.declared.Refusal.the-variants as Refusal
+use Rattle.refusals.specs.declared.Told.{Told}
+use Rattle.refusals.specs.Table.{toldOf, nothing}
 use Rattle.figures.specs.declared.Figures.{Figures}
 use Rattle.sheet_text.specs.declared.ReadAnswer.{ReadAnswer}
 use Rattle.sheet_text.specs.declared.ReadAnswer.the-variants as ReadAnswer
 use Rattle.sheet_text.specs.declared.WriteAnswer.{WriteAnswer}
 use Rattle.sheet_text.specs.declared.WriteAnswer.the-variants as WriteAnswer
 use Rattle.sheet_text.specs.Sheet.{schema, valuesOf, textOf, InRange, IsSheet}
-use Rattle.sheet_text.specs.Read.{ReadRight, Accepted, numberOf, placeOf}
+use Rattle.sheet_text.specs.Read as Read
+use Rattle.sheet_text.specs.Read.{ReadRight, SheetOf, toldIn}
+use Rattle.sheet_text.specs.Write as Write
 use Rattle.sheet_text.specs.Write.{WriteRight}
 use Rattle.sheet_text.proofs.Steps.{nat}
 
@@ -50,28 +56,48 @@ text-inj f g hf hg e = values-inj f g (lines-inj schema (valuesOf f) (valuesOf g
 pub offset-once : (t : List ℕ) (j k : ℕ) → RefusedAt IsSheet t j → RefusedAt IsSheet t k → j ≡ k
 offset-once = refused-once IsSheet
 
+-- A sheet is not refused.
+never-both : (t : List ℕ) (f : Figures) (r : Refusal) → SheetOf t f → Read.Refused t r → ⊥
+never-both t f (Refusal.NoSheet k) p (Read.Refused.noSheet x) = x .none (record { value = f; taken = p .inRange; is = p .is })
+
+refused-same : (t : List ℕ) (r s : Refusal) → Read.Refused t r → Read.Refused t s → r ≡ s
+refused-same t (Refusal.NoSheet j) (Refusal.NoSheet k) (Read.Refused.noSheet x) (Read.Refused.noSheet y) = ap Refusal.NoSheet (offset-once t j k x y)
+
 -- Any two answers that `read`'s contract permits are equal.
 pub read-settled : (t : List ℕ) (a b : ReadAnswer) → ReadRight t a → ReadRight t b → a ≡ b
 read-settled t (ReadAnswer.Sheet f) (ReadAnswer.Sheet g) p q =
     ap ReadAnswer.Sheet (text-inj f g (p .inRange) (q .inRange) (sym (p .is) ∙ q .is))
-read-settled t (ReadAnswer.Sheet f) (ReadAnswer.NoSheet k) p q = absurd (q .place .none (record { value = f; taken = p .inRange; is = p .is }))
-read-settled t (ReadAnswer.NoSheet j) (ReadAnswer.Sheet g) p q = absurd (p .place .none (record { value = g; taken = q .inRange; is = q .is }))
-read-settled t (ReadAnswer.NoSheet j) (ReadAnswer.NoSheet k) p q = ap ReadAnswer.NoSheet (offset-once t j k (p .place) (q .place))
+read-settled t (ReadAnswer.Sheet f) (ReadAnswer.Refused s) p q = absurd (never-both t f s p q)
+read-settled t (ReadAnswer.Refused r) (ReadAnswer.Sheet g) p q = absurd (never-both t g r q p)
+read-settled t (ReadAnswer.Refused r) (ReadAnswer.Refused s) p q = ap ReadAnswer.Refused (refused-same t r s p q)
+
+written-or-short : (f : Figures) (old new other : List ℕ) (m : ℕ) (r : Refusal) → Write.Done f old new m → Write.Refused f old other r → ⊥
+written-or-short f old new other m (Refusal.ShortBuffer n) p (Write.Refused.shortBuffer q) = omega (arith, p .size, p .room, q .needed, q .short)
+
+short-same : (f : Figures) (old new other : List ℕ) (r s : Refusal) → Write.Refused f old new r → Write.Refused f old other s → (r ≡ s) × (new ≡ other)
+short-same f old new other (Refusal.ShortBuffer m) (Refusal.ShortBuffer n) (Write.Refused.shortBuffer p) (Write.Refused.shortBuffer q) =
+    (ap Refusal.ShortBuffer (p .needed ∙ sym (q .needed)), p .is ∙ sym (q .is))
 
 -- Any two answers and buffers that `write`'s contract permits are equal.
 pub write-settled : (f : Figures) (old new other : List ℕ) (a b : WriteAnswer) → WriteRight f old new a → WriteRight f old other b → (a ≡ b) × (new ≡ other)
 write-settled f old new other (WriteAnswer.Written m) (WriteAnswer.Written n) p q =
     let e : m ≡ n = p .size ∙ sym (q .size) in
     (ap WriteAnswer.Written e, p .is ∙ ap (λ (k : ℕ). textOf f ++ drop k old) e ∙ sym (q .is))
-write-settled f old new other (WriteAnswer.Written m) (WriteAnswer.TooShort n) p q = absurd (omega (arith, p .size, p .room, q .place, q .short))
-write-settled f old new other (WriteAnswer.TooShort m) (WriteAnswer.Written n) p q = absurd (omega (arith, q .size, q .room, p .place, p .short))
-write-settled f old new other (WriteAnswer.TooShort m) (WriteAnswer.TooShort n) p q =
-    (ap WriteAnswer.TooShort (p .place ∙ sym (q .place)), p .is ∙ sym (q .is))
+write-settled f old new other (WriteAnswer.Written m) (WriteAnswer.Refused s) p q = absurd (written-or-short f old new other m s p q)
+write-settled f old new other (WriteAnswer.Refused r) (WriteAnswer.Written n) p q = absurd (written-or-short f old other new n r q p)
+write-settled f old new other (WriteAnswer.Refused r) (WriteAnswer.Refused s) p q =
+    let e : (r ≡ s) × (new ≡ other) = short-same f old new other r s p q in
+    (ap WriteAnswer.Refused (e .0), e .1)
 
--- A text is accepted exactly if it is some sheet's rendering.
-pub accepted-iff : (t : List ℕ) (a : ReadAnswer) → ReadRight t a → (numberOf a ≡ 0) ↔ IsSheet t
+-- A refusal is not told as nothing.
+refused-told : (t : List ℕ) (r : Refusal) → Read.Refused t r → toldOf r ≡ nothing → ⊥
+refused-told t (Refusal.NoSheet k) (Read.Refused.noSheet x) e = omega (arith, ap (λ (a : Told). a .number) e)
+
+-- Nothing is told of a text exactly if it is some sheet's rendering.
+pub accepted-iff : (t : List ℕ) (a : ReadAnswer) → ReadRight t a → (toldIn a ≡ nothing) ↔ IsSheet t
 accepted-iff t (ReadAnswer.Sheet f) p = (λ e. record { value = f; taken = p .inRange; is = p .is }, λ s. refl)
-accepted-iff t (ReadAnswer.NoSheet k) p = (λ e. absurd (omega (arith, e)), λ s. absurd (p .place .none s))
+accepted-iff t (ReadAnswer.Refused r) p =
+    (λ e. absurd (refused-told t r p e), λ s. absurd (never-both t (s .value) r (record { inRange = s .taken; is = s .is }) p))
 
 -- Reading what was written gives the same figures.
 pub read-back : (f : Figures) → InRange f → (old new : List ℕ) (n : ℕ) → WriteRight f old new (WriteAnswer.Written n)

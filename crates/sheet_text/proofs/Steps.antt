@@ -12,24 +12,23 @@ use mir.Val.{SFits, toZ, ofZ}
 use mir.ValLaws.{toZ-ofZ}
 use Rattle.text.specs.declared.Natural.{Natural}
 use Rattle.text.specs.declared.Natural.the-variants as Natural
-use Rattle.text.specs.declared.Whole.{Whole}
-use Rattle.text.specs.declared.Whole.the-variants as Whole
+use Rattle.text.specs.declared.Signed.{Signed}
+use Rattle.text.specs.declared.Signed.the-variants as Signed
 use Rattle.text.specs.Form.{Form, Of, ReadAs, Broken, RefusedAt}
 use Rattle.text.specs.Decimal.{Range, Fit, plain}
 use Rattle.text.specs.Line.{Entry, lineOf, line, linesOf, AllFit, lines}
-use Rattle.text.specs.Answer.{Put, NaturalIn, WholeIn, wrongAt, wholeWrongAt, AskedSigned}
+use Rattle.text.specs.Answer.{Put, NaturalIn, SignedIn, wrongAt, signedWrongAt, AskedSigned}
 use Rattle.text.proofs.Natural as NaturalType
-use Rattle.text.proofs.Whole as WholeType
+use Rattle.text.proofs.Signed as SignedType
 use Rattle.text.proofs.Forms.{refused-alike}
-use Rattle.text.proofs.Lines.{natural-read, whole-read, natural-wrong, whole-wrong}
+use Rattle.text.proofs.Lines.{natural-read, signed-read, natural-wrong, signed-wrong}
 use Rattle.text.proofs.Writing.{put-leads}
 use Rattle.text.proofs.Tables.{lines-read, lines-broken, lines-past, lines-all, lines-put, lines-append, lines-longest, lines-snoc, Wide, longest}
 use Rattle.figures.specs.declared.Figures.{Figures}
-use Rattle.sheet_text.specs.Sheet.{schema, valuesOf, textOf, InRange, IsSheet, unsigned64, signed64}
-use Rattle.sheet_text.specs.Read.{Accepted, Refused, HeadIn, volumesOf, headWrong}
+use Rattle.sheet_text.specs.Sheet.{schema, valuesOf, textOf, sheetMost, InRange, IsSheet, unsigned64, signed64}
+use Rattle.sheet_text.specs.Read.{SheetOf}
+use Rattle.sheet_text.specs.Head.{HeadIn, volumesOf, headWrong}
 use Rattle.sheet_text.specs.Write.{Done, Short}
-use Rattle.sheet_text.specs.declared.ReadAnswer.the-variants as ReadAnswer
-use Rattle.sheet_text.specs.declared.WriteAnswer.the-variants as WriteAnswer
 use Rattle.sheet_text.specs.declared.Volumes.{Volumes}
 use Rattle.sheet_text.specs.declared.Head.{Head}
 use Rattle.sheet_text.specs.declared.Head.the-variants as Head
@@ -91,12 +90,12 @@ longest-take zero es = omega arith
 longest-take (suc n) [] = omega arith
 longest-take (suc n) (e ∷ es) = omega (arith, longest-take n es)
 
--- No sheet is longer than 465 bytes.
+-- No sheet has more than sheetMost bytes.
 schema-wide : Wide schema
 unfolding schema
 schema-wide = omega arith
 
-schema-longest : longest schema ≡ 465
+schema-longest : longest schema ≡ sheetMost
 unfolding schema
 schema-longest = refl
 
@@ -208,47 +207,44 @@ module _ (t : List ℕ) (i : ℕ) (h : i < 15) (zs : List ℤ) (p : ℕ) (a : Re
       subst (λ (es : List Entry). ReadAs (lines es) t 0 q (zs ++ (z ∷ []))) (sym (take-suc schema i blank short))
       (lines-read (take i schema) (entryAt i) zs z t 0 p q a b)
 
-  read-refused : (k : ℕ) → Broken (Of (line (entryAt i .key) (entryAt i .range))) t p k → Refused t (ReadAnswer.NoSheet k)
-  read-refused k b = record {
-    number = refl;
-    device = refl;
-    place = sheet-refused t k
-        (subst (λ (es : List Entry). RefusedAt (Of (lines es)) t k) (sym (split-at schema i blank short))
-        (lines-broken (take i schema) t p zs a (entryAt i) (drop (suc i) schema) k b (drop (suc i) zeros) (fit-drop (suc i) schema zeros zeros-fit)));
-  }
+  read-refused : (k : ℕ) → Broken (Of (line (entryAt i .key) (entryAt i .range))) t p k → RefusedAt IsSheet t k
+  read-refused k b =
+      sheet-refused t k
+      (subst (λ (es : List Entry). RefusedAt (Of (lines es)) t k) (sym (split-at schema i blank short))
+      (lines-broken (take i schema) t p zs a (entryAt i) (drop (suc i) schema) k b (drop (suc i) zeros) (fit-drop (suc i) schema zeros zeros-fit)))
 
 -- The same with what the reader of a line answered and promises.
 module _ {t : List ℕ} {zs : List ℤ} {p : ℕ} (i : ℕ) (h : i < 15) (a : ReadAs (lines (take i schema)) t 0 p zs) where
   pub natural-step : {r : Natural} {v q : ℕ} → r ≡ Natural.Value v q → NaturalIn (line (entryAt i .key) (entryAt i .range)) t p r → ReadAs (lines (take (suc i) schema)) t 0 q (zs ++ (pos v ∷ []))
   natural-step {r} {v} {q} e b = read-step t i h zs p a (pos v) q (natural-read (line (entryAt i .key) (entryAt i .range)) t p r v q e b)
 
-  pub whole-step : {r : Whole} {z : ℤ} {q : ℕ} → r ≡ Whole.Value z q → WholeIn (line (entryAt i .key) (entryAt i .range)) t p r → ReadAs (lines (take (suc i) schema)) t 0 q (zs ++ (z ∷ []))
-  whole-step {r} {z} {q} e b = read-step t i h zs p a z q (whole-read (line (entryAt i .key) (entryAt i .range)) t p r z q e b)
+  pub signed-step : {r : Signed} {z : ℤ} {q : ℕ} → r ≡ Signed.Value z q → SignedIn (line (entryAt i .key) (entryAt i .range)) t p r → ReadAs (lines (take (suc i) schema)) t 0 q (zs ++ (z ∷ []))
+  signed-step {r} {z} {q} e b = read-step t i h zs p a z q (signed-read (line (entryAt i .key) (entryAt i .range)) t p r z q e b)
 
-  pub whole-fit : {r : Whole} {z : ℤ} {q : ℕ} → r ≡ Whole.Value z q → WholeIn (line (entryAt i .key) (entryAt i .range)) t p r → Fit (entryAt i .range) z
-  whole-fit {r} {z} {q} e b = whole-read (line (entryAt i .key) (entryAt i .range)) t p r z q e b .taken
+  pub read-fit : {r : Signed} {z : ℤ} {q : ℕ} → r ≡ Signed.Value z q → SignedIn (line (entryAt i .key) (entryAt i .range)) t p r → Fit (entryAt i .range) z
+  read-fit {r} {z} {q} e b = signed-read (line (entryAt i .key) (entryAt i .range)) t p r z q e b .taken
 
-  pub natural-refused : (r : Natural) {k : ℕ} → tagOf NaturalType.the-type r ≡ 1 → k ≡ wrongAt r → NaturalIn (line (entryAt i .key) (entryAt i .range)) t p r → Refused t (ReadAnswer.NoSheet k)
+  pub natural-refused : (r : Natural) {k : ℕ} → tagOf NaturalType.the-type r ≡ 1 → k ≡ wrongAt r → NaturalIn (line (entryAt i .key) (entryAt i .range)) t p r → RefusedAt IsSheet t k
   natural-refused r {k} tag e b = read-refused t i h zs p a k (natural-wrong (line (entryAt i .key) (entryAt i .range)) t p k r tag e b)
 
-  pub whole-refused : (r : Whole) {k : ℕ} → tagOf WholeType.the-type r ≡ 1 → k ≡ wholeWrongAt r → WholeIn (line (entryAt i .key) (entryAt i .range)) t p r → Refused t (ReadAnswer.NoSheet k)
-  whole-refused r {k} tag e b = read-refused t i h zs p a k (whole-wrong (line (entryAt i .key) (entryAt i .range)) t p k r tag e b)
+  pub signed-refused : (r : Signed) {k : ℕ} → tagOf SignedType.the-type r ≡ 1 → k ≡ signedWrongAt r → SignedIn (line (entryAt i .key) (entryAt i .range)) t p r → RefusedAt IsSheet t k
+  signed-refused r {k} tag e b = read-refused t i h zs p a k (signed-wrong (line (entryAt i .key) (entryAt i .range)) t p k r tag e b)
 
 pub head-read : {t : List ℕ} {r : Head} {v : Volumes} {q : ℕ} → r ≡ Head.Read v q → HeadIn t r → ReadAs (lines (take 8 schema)) t 0 q (volumesOf v)
 head-read {t} e b = subst (HeadIn t) e b
 
-pub head-refused : {t : List ℕ} (r : Head) {k : ℕ} → tagOf HeadType.the-type r ≡ 1 → k ≡ headWrong r → HeadIn t r → Refused t (ReadAnswer.NoSheet k)
+pub head-refused : {t : List ℕ} (r : Head) {k : ℕ} → tagOf HeadType.the-type r ≡ 1 → k ≡ headWrong r → HeadIn t r → RefusedAt IsSheet t k
 head-refused (Head.Read v q) tag e b = absurd (omega (arith, tag))
-head-refused {t} (Head.Wrong j) tag e b = subst (λ (x : ℕ). Refused t (ReadAnswer.NoSheet x)) (sym e) b
+head-refused {t} (Head.Wrong j) tag e b = subst (λ (x : ℕ). RefusedAt IsSheet t x) (sym e) b
 
 module _ {t : List ℕ} {zs : List ℤ} {p : ℕ} (a : ReadAs (lines (take 15 schema)) t 0 p zs) where
   all-lines : take 15 schema ≡ schema
   all-lines = take-all 15 schema (omega (arith, schema-length))
 
-  pub read-past : p < length t → Refused t (ReadAnswer.NoSheet p)
-  read-past h = record { number = refl; device = refl; place = sheet-refused t p (subst (λ (es : List Entry). RefusedAt (Of (lines es)) t p) all-lines (lines-past (take 15 schema) t p zs a h)) }
+  pub read-past : p < length t → RefusedAt IsSheet t p
+  read-past h = sheet-refused t p (subst (λ (es : List Entry). RefusedAt (Of (lines es)) t p) all-lines (lines-past (take 15 schema) t p zs a h))
 
-  pub read-all : length t ≤ p → (f : Figures) → valuesOf f ≡ zs → Accepted t f
+  pub read-all : length t ≤ p → (f : Figures) → valuesOf f ≡ zs → SheetOf t f
   unfolding textOf InRange
   read-all h f e = record {
     inRange = subst (AllFit schema) (sym e) (subst (λ (es : List Entry). AllFit es zs) all-lines (a .taken));
@@ -304,7 +300,7 @@ module _ (f : Figures) (fit : InRange f) (i : ℕ) (h : i < 15) {old mid : List 
     pub put-signed-room : p + length (lineOf (entryAt i .key) (toZ w64 (ofZ w64 (valueAt f i)))) < 2 ^ 64
     put-signed-room = subst (λ (z : ℤ). p + length (lineOf (entryAt i .key) z) < 2 ^ 64) (sym same) put-room
 
-pub sheet-longest : (f : Figures) → InRange f → length (textOf f) ≤ 465
+pub sheet-longest : (f : Figures) → InRange f → length (textOf f) ≤ sheetMost
 unfolding textOf InRange
 sheet-longest f fit = omega (arith, lines-longest schema (valuesOf f) schema-wide fit, schema-longest)
 
@@ -330,11 +326,9 @@ pub put-done : (f : Figures) (old mid new : List ℕ) (n m : ℕ) → mid ≡ ol
 put-done f old mid new n m same size room a =
     put-leads (textOf f) old new m (subst (λ (l : List ℕ). Put l 0 (textOf f) new m) same a) (omega (arith, size, ap length same))
 
-pub put-short : (f : Figures) (old mid : List ℕ) (n : ℕ) → mid ≡ old → n ≡ 0 + length (textOf f) → length mid < n → length (textOf f) ≤ 465 → Short f old mid (WriteAnswer.TooShort n)
+pub put-short : (f : Figures) (old mid : List ℕ) (n : ℕ) → mid ≡ old → n ≡ 0 + length (textOf f) → length mid < n → length (textOf f) ≤ sheetMost → Short f old mid n
 put-short f old mid n same size short most = record {
-  number = refl;
-  device = refl;
-  place = omega (arith, size);
+  needed = omega (arith, size);
   short = omega (arith, ap length same);
   most = omega (arith, size, most);
   is = same;

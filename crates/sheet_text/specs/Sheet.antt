@@ -1,5 +1,5 @@
--- The sheet's lines as one table (document 01: "A sheet's reduction_mg and tonnes are signed 64-bit, the rest unsigned 64-bit;
--- reading checks form and range, not the sums"). A line more is one entry more here and one value more below.
+-- The sheet's lines as one table (rules 11.3 and 11.4): a line's key and the numbers that it takes, and no more is checked (rule 11.5).
+-- A line more is one entry more here and one value more below.
 use Prim.Native.Nat.{ℕ}
 use Prim.Native.String.{String}
 use mathlib.Core.Path.{_≡_, refl}
@@ -72,3 +72,7 @@ sheet = record { text = textOf; takes = InRange }
 -- The texts that are sheets.
 abbrev pub IsSheet : List ℕ → Type 0
 IsSheet = Of sheet
+
+-- No sheet has more bytes (rule 11.11; proved in proofs/Steps.antt).
+abbrev pub sheetMost : ℕ
+sheetMost = 465

@@ -1,4 +1,4 @@
--- Document 01's worked example: its figures and the whole of its output.
+-- The worked example (rule 14.2): its figures and the whole of its output.
 use mathlib.Core.Path.{_≡_, refl}
 use lib.IntN.{pos}
 use Rattle.text.specs.Bytes.{bytes}

@@ -4,36 +4,35 @@ use mathlib.Core.Path.{_≡_}
 use mathlib.Core.List.{List}
 use lib.ListN.{length}
 use Rattle.text.specs.Answer.{Leads}
+use Rattle.refusals.specs.declared.Refusal.{Refusal}
+use Rattle.refusals.specs.declared.Refusal.the-variants as Refusal
+use Rattle.refusals.specs.declared.Told.{Told}
+use Rattle.refusals.specs.Table.{toldOf, nothing}
 use Rattle.figures.specs.declared.Figures.{Figures}
 use Rattle.sheet_text.specs.declared.WriteAnswer.{WriteAnswer}
 use Rattle.sheet_text.specs.declared.WriteAnswer.the-variants as WriteAnswer
-use Rattle.sheet_text.specs.Sheet.{textOf}
+use Rattle.sheet_text.specs.Sheet.{textOf, sheetMost}
 
--- Document 01's number, device and place of an answer: "11 | buffer too short for the sheet", "11 gives the length needed and writes nothing".
-abbrev pub numberOf : WriteAnswer → ℕ
-numberOf (WriteAnswer.Written n) = 0
-numberOf (WriteAnswer.TooShort n) = 11
+-- What an answer tells: nothing where the sheet is written (rule 5.7), else the refusal as the table has it.
+abbrev pub toldIn : WriteAnswer → Told
+toldIn (WriteAnswer.Written n) = nothing
+toldIn (WriteAnswer.Refused r) = toldOf r
 
-abbrev pub deviceOf : WriteAnswer → ℕ
-deviceOf a = 0
-
-abbrev pub placeOf : WriteAnswer → ℕ
-placeOf (WriteAnswer.Written n) = 0
-placeOf (WriteAnswer.TooShort n) = n
-
--- "a written sheet changes no byte after its end"
+-- The text stands at the buffer's start, n is its length, and no byte after it has changed (rule 11.9).
 abbrev pub Done : Figures → List ℕ → List ℕ → ℕ → Type 0
 Done f = Leads (textOf f)
 
--- No sheet is longer than 465 bytes, so a buffer of 465 is never too short.
-pub record Short (f : Figures) (old new : List ℕ) (a : WriteAnswer) : Type 0 where
-  pub number : numberOf a ≡ 11
-  pub device : deviceOf a ≡ 0
-  pub place : placeOf a ≡ length (textOf f)
-  pub short : length old < placeOf a
-  pub most : placeOf a ≤ 465
+-- The buffer is shorter than the n bytes of the text, and nothing is written (rule 11.10). A buffer of sheetMost bytes never is.
+pub record Short (f : Figures) (old new : List ℕ) (n : ℕ) : Type 0 where
+  pub needed : n ≡ length (textOf f)
+  pub short : length old < n
+  pub most : n ≤ sheetMost
   pub is : new ≡ old
+
+-- The one refusal of writing (rule 4.11).
+pub data Refused (f : Figures) (old new : List ℕ) : Refusal → Type 0 where
+  shortBuffer : {n : ℕ} → Short f old new n → Refused f old new (Refusal.ShortBuffer n)
 
 abbrev pub WriteRight : Figures → List ℕ → List ℕ → WriteAnswer → Type 0
 WriteRight f old new (WriteAnswer.Written n) = Done f old new n
-WriteRight f old new (WriteAnswer.TooShort n) = Short f old new (WriteAnswer.TooShort n)
+WriteRight f old new (WriteAnswer.Refused r) = Refused f old new r

@@ -1,15 +1,19 @@
 // The sheet as text: written from its figures and read back. A text is a sheet if it is some figures' rendering (specs/Sheet.antt).
 use figures::Figures;
+use refusals::Refusal;
+use refusals::Told;
+use refusals::Verdict;
 use text::Natural;
-use text::Whole;
+use text::Signed;
 ghost use Prim.Native.Nat.{_≤_};
 ghost use mathlib.Core.Path.{_≡_};
 ghost use lib.ListN.{length, take};
 ghost use Rattle.text.specs.Answer.{Put};
 ghost use Rattle.text.specs.Line.{linesOf};
-ghost use Rattle.sheet_text.specs.Sheet.{textOf, schema, valuesOf, InRange};
+ghost use Rattle.sheet_text.specs.Sheet.{textOf, schema, valuesOf, sheetMost, InRange};
 ghost use Rattle.sheet_text.specs.Read as Read;
-ghost use Rattle.sheet_text.specs.Read.{ReadRight, HeadIn, headWrong};
+ghost use Rattle.sheet_text.specs.Read.{ReadRight};
+ghost use Rattle.sheet_text.specs.Head.{HeadIn, headWrong};
 ghost use Rattle.sheet_text.specs.Write as Write;
 ghost use Rattle.sheet_text.specs.Write.{WriteRight};
 
@@ -19,78 +23,46 @@ const SIGNED_BELOW: u64 = 9223372036854775808;
 
 const SIGNED_MOST: u64 = 9223372036854775807;
 
-// The figures, or the offset of the first byte that no sheet could have there.
+// No sheet has more bytes (rule 11.11): a buffer of this length is never too short.
+pub const SHEET_MOST: usize = 465;
+
+// The figures, or that the text is no sheet.
 pub enum ReadAnswer {
     Sheet(Figures),
-    NoSheet(usize),
+    Refused(Refusal),
 }
 
-// The length written, or the length needed.
+// The length written, or that the buffer is too short.
 pub enum WriteAnswer {
     Written(usize),
-    TooShort(usize),
+    Refused(Refusal),
 }
 
-// Document 01's number, device and place of an answer, as specs/Read.antt and specs/Write.antt have them.
 impl ReadAnswer {
-    // Rules out: 10 for a sheet; 11 for a text that is none.
-    pub fn number(self) -> u64
-        ensures { λ r. ⌜ r ≡ Read.numberOf self ⌝ }
+    // Ruled out: a number for a sheet; the line's number for the byte's offset.
+    pub fn told(self) -> Told
+        ensures { λ r. ⌜ r ≡ Read.toldIn self ⌝ }
     {
         match self {
-            ReadAnswer::Sheet(_) => 0,
-            ReadAnswer::NoSheet(_) => 10,
-        }
-    }
-
-    // Rules out: the figure `devices`; the place.
-    pub fn device(self) -> u64
-        ensures { λ r. ⌜ r ≡ Read.deviceOf self ⌝ }
-    {
-        0
-    }
-
-    // Rules out: 0 for every refusal; the line's number.
-    pub fn place(self) -> usize
-        ensures { λ r. ⌜ r ≡ Read.placeOf self ⌝ }
-    {
-        match self {
-            ReadAnswer::Sheet(_) => 0,
-            ReadAnswer::NoSheet(k) => k,
+            ReadAnswer::Sheet(_) => Verdict::Clean.told(),
+            ReadAnswer::Refused(r) => r.told(),
         }
     }
 }
 
 impl WriteAnswer {
-    // Rules out: 11 for a sheet that was written; 10 for a buffer that is too short.
-    pub fn number(self) -> u64
-        ensures { λ r. ⌜ r ≡ Write.numberOf self ⌝ }
+    // Ruled out: the length written told as a place; the buffer's length for the length needed.
+    pub fn told(self) -> Told
+        ensures { λ r. ⌜ r ≡ Write.toldIn self ⌝ }
     {
         match self {
-            WriteAnswer::Written(_) => 0,
-            WriteAnswer::TooShort(_) => 11,
-        }
-    }
-
-    // Rules out: the figure `devices`; the place.
-    pub fn device(self) -> u64
-        ensures { λ r. ⌜ r ≡ Write.deviceOf self ⌝ }
-    {
-        0
-    }
-
-    // Rules out: the buffer's length; 0 for every refusal.
-    pub fn place(self) -> usize
-        ensures { λ r. ⌜ r ≡ Write.placeOf self ⌝ }
-    {
-        match self {
-            WriteAnswer::Written(_) => 0,
-            WriteAnswer::TooShort(n) => n,
+            WriteAnswer::Written(_) => Verdict::Clean.told(),
+            WriteAnswer::Refused(r) => r.told(),
         }
     }
 }
 
-// The sheet's first eight lines into the buffer as far as it goes, and their length. Rules out: a line left out; two lines exchanged.
+// The sheet's first eight lines into the buffer as far as it goes, and their length. Ruled out: a line left out; two lines exchanged.
 fn put_head(f: Figures, buf: &mut [u8]) -> usize
     requires { ⌜ InRange f ⌝ }
     ensures { λ r. ⌜ Put (now (buf .entry)) 0 (linesOf (take 8 schema) (take 8 (valuesOf f))) (now (buf .exit)) r ⌝ }
@@ -107,7 +79,7 @@ fn put_head(f: Figures, buf: &mut [u8]) -> usize
 
 // The sheet's lines into the buffer as far as it goes, and their length whatever the buffer's.
 fn put_sheet(f: Figures, buf: &mut [u8]) -> usize
-    ensures { λ r. ⌜ Put (now (buf .entry)) 0 (textOf f) (now (buf .exit)) r × (length (textOf f) ≤ 465) ⌝ }
+    ensures { λ r. ⌜ Put (now (buf .entry)) 0 (textOf f) (now (buf .exit)) r × (length (textOf f) ≤ sheetMost) ⌝ }
 {
     let p8 = put_head(f, buf);
     let p9 = writing::put_line(buf, p8, b"baseline_mg=", f.baseline_mg);
@@ -119,13 +91,13 @@ fn put_sheet(f: Figures, buf: &mut [u8]) -> usize
     writing::put_line(buf, p14, b"credits=", f.credits)
 }
 
-// Writes the sheet. Rules out: a byte after the sheet's end changed; TooShort with a part of the sheet written.
+// Writes the sheet. Ruled out: a byte after the sheet's end changed; a part of the sheet in a buffer that is too short.
 pub fn write(f: Figures, buf: &mut [u8]) -> WriteAnswer
     ensures { λ r. ⌜ WriteRight f (now (buf .entry)) (now (buf .exit)) r ⌝ }
 {
     let n = put_sheet(f, &mut buf[..0]);
     if buf.len() < n {
-        return WriteAnswer::TooShort(n);
+        return WriteAnswer::Refused(Refusal::ShortBuffer(n));
     }
     let m = put_sheet(f, buf);
     WriteAnswer::Written(m)
@@ -150,7 +122,7 @@ enum Head {
 }
 
 impl Head {
-    // The place of an answer that is wrong. Rules out: 0 for every answer; the place after the lines.
+    // The place of an answer that is wrong. Ruled out: 0 for every answer; the place after the lines.
     fn wrong_at(self) -> usize
         ensures { λ r. ⌜ r ≡ headWrong self ⌝ }
     {
@@ -161,7 +133,7 @@ impl Head {
     }
 }
 
-// Reads the sheet's first eight lines. Rules out: a missing line passed over; the start of the wrong line for its first wrong byte.
+// Reads the sheet's first eight lines. Ruled out: a missing line passed over; the start of the wrong line for its first wrong byte.
 fn read_head(t: &[u8]) -> Head
     ensures { λ r. ⌜ HeadIn (now (t .entry)) r ⌝ }
 {
@@ -212,44 +184,44 @@ fn read_head(t: &[u8]) -> Head
     )
 }
 
-// Reads a sheet. Rules out: `01` refused at the line's end rather than at the 1; a text with a byte behind the last line accepted.
+// Reads a sheet. Ruled out: `01` refused at the line's end rather than at the 1; a text with a byte behind the last line accepted.
 pub fn read(t: &[u8]) -> ReadAnswer
     ensures { λ r. ⌜ ReadRight (now (t .entry)) r ⌝ }
 {
     let h = read_head(t);
     let Head::Read(v, p8) = h else {
-        return ReadAnswer::NoSheet(h.wrong_at());
+        return ReadAnswer::Refused(Refusal::NoSheet(h.wrong_at()));
     };
     let a9 = text::read_line(t, p8, b"baseline_mg=", 0, MOST);
     let Natural::Value(baseline_mg, p9) = a9 else {
-        return ReadAnswer::NoSheet(a9.wrong_at());
+        return ReadAnswer::Refused(Refusal::NoSheet(a9.wrong_at()));
     };
     let a10 = text::read_line(t, p9, b"co2_mg=", 0, MOST);
     let Natural::Value(co2_mg, p10) = a10 else {
-        return ReadAnswer::NoSheet(a10.wrong_at());
+        return ReadAnswer::Refused(Refusal::NoSheet(a10.wrong_at()));
     };
     let a11 = text::read_line(t, p10, b"uncombusted_mg=", 0, MOST);
     let Natural::Value(uncombusted_mg, p11) = a11 else {
-        return ReadAnswer::NoSheet(a11.wrong_at());
+        return ReadAnswer::Refused(Refusal::NoSheet(a11.wrong_at()));
     };
     let a12 = text::read_line(t, p11, b"fuel_mg=", 0, MOST);
     let Natural::Value(fuel_mg, p12) = a12 else {
-        return ReadAnswer::NoSheet(a12.wrong_at());
+        return ReadAnswer::Refused(Refusal::NoSheet(a12.wrong_at()));
     };
     let a13 = text::read_signed_line(t, p12, b"reduction_mg=", SIGNED_BELOW, SIGNED_MOST);
-    let Whole::Value(reduction_mg, p13) = a13 else {
-        return ReadAnswer::NoSheet(a13.wrong_at());
+    let Signed::Value(reduction_mg, p13) = a13 else {
+        return ReadAnswer::Refused(Refusal::NoSheet(a13.wrong_at()));
     };
     let a14 = text::read_signed_line(t, p13, b"tonnes=", SIGNED_BELOW, SIGNED_MOST);
-    let Whole::Value(tonnes, p14) = a14 else {
-        return ReadAnswer::NoSheet(a14.wrong_at());
+    let Signed::Value(tonnes, p14) = a14 else {
+        return ReadAnswer::Refused(Refusal::NoSheet(a14.wrong_at()));
     };
     let a15 = text::read_line(t, p14, b"credits=", 0, MOST);
     let Natural::Value(credits, p15) = a15 else {
-        return ReadAnswer::NoSheet(a15.wrong_at());
+        return ReadAnswer::Refused(Refusal::NoSheet(a15.wrong_at()));
     };
     if p15 < t.len() {
-        return ReadAnswer::NoSheet(p15);
+        return ReadAnswer::Refused(Refusal::NoSheet(p15));
     }
     ReadAnswer::Sheet(Figures {
         intervals: v.intervals,

@@ -82,7 +82,7 @@ module _ {A : Type 0} (f : Form A) (free : Free f) where
   -- A text of the form is not begun further.
   pub started-past : (p q m : List ℕ) → Started (Of f) p → Of f q → p ≡ q ++ m → ⊥
   started-past p q m s o e =
-      let w : Of f (p ++ (s .next ∷ s .rest)) = s .whole in
+      let w : Of f (p ++ (s .next ∷ s .rest)) = s .belongs in
       let long : q ++ (m ++ (s .next ∷ s .rest)) ≡ f .text (w .value) =
       sym (append-assoc q m (s .next ∷ s .rest)) ∙ ap (λ (l : List ℕ). l ++ (s .next ∷ s .rest)) (sym e) ∙ w .is
       in
@@ -110,7 +110,7 @@ module _ {A : Type 0} (f : Form A) (free : Free f) where
           let g : (m : List ℕ) × (f .text a ≡ (b .read ++ (getD t k 0 ∷ [])) ++ m) =
           stands-grows t i (suc k) stop (b .read ++ (getD t k 0 ∷ [])) (f .text a) (stands-one t i k (b .read) (b .stands) inside) (r .stands) h
           in
-          b .ends inside (record { rest = g .0; whole = subst (Of f) (g .1) o })
+          b .ends inside (record { rest = g .0; belongs = subst (Of f) (g .1) o })
 
   pub read-once : (t : List ℕ) (i p q : ℕ) (a b : A) → i ≤ length t → ReadAs f t i p a → ReadAs f t i q b → (a ≡ b) × (p ≡ q)
   read-once t i p q a b h r s =
@@ -137,9 +137,9 @@ broken-before L t i j k b d h =
     subst L
     (ap (λ (l : List ℕ). l ++ (d .begins .next ∷ d .begins .rest)) (g .1)
     ∙ append-assoc (b .read ++ (getD t j 0 ∷ [])) (g .0) (d .begins .next ∷ d .begins .rest))
-    (d .begins .whole)
+    (d .begins .belongs)
     in
-    b .ends inside (record { rest = g .0 ++ (d .begins .next ∷ d .begins .rest); whole = w })
+    b .ends inside (record { rest = g .0 ++ (d .begins .next ∷ d .begins .rest); belongs = w })
 
 pub broken-once : (L : List ℕ → Type 0) (t : List ℕ) (i j k : ℕ) → Broken L t i j → Broken L t i k → j ≡ k
 broken-once L t i j k b d =
@@ -150,7 +150,7 @@ broken-once L t i j k b d =
 -- ---- whole texts
 
 pub begun-less : (L : List ℕ → Type 0) (p m : List ℕ) → Begun L (p ++ m) → Begun L p
-begun-less L p m b = record { rest = m ++ b .rest; whole = subst L (append-assoc p m (b .rest)) (b .whole) }
+begun-less L p m b = record { rest = m ++ b .rest; belongs = subst L (append-assoc p m (b .rest)) (b .belongs) }
 
 refused-before : (L : List ℕ → Type 0) (t : List ℕ) (j k : ℕ) → RefusedAt L t j → RefusedAt L t k → j < k → ⊥
 refused-before L t j k a b h =
@@ -169,7 +169,7 @@ pub refused-alike : (L M : List ℕ → Type 0) → ((p : List ℕ) → L p → 
     → (t : List ℕ) (k : ℕ) → RefusedAt L t k → RefusedAt M t k
 refused-alike L M there back t k r = record {
   within = r .within;
-  begins = record { rest = r .begins .rest; whole = there _ (r .begins .whole) };
-  ends = λ inside b. r .ends inside (record { rest = b .rest; whole = back _ (b .whole) });
+  begins = record { rest = r .begins .rest; belongs = there _ (r .begins .belongs) };
+  ends = λ inside b. r .ends inside (record { rest = b .rest; belongs = back _ (b .belongs) });
   none = λ x. r .none (back t x);
 }

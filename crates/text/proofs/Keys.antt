@@ -9,7 +9,8 @@ use borrow.Author.Count.{below-none, below-more}
 use lib.ListN.{length, getD, take}
 use lib.Seq.{take-all}
 use Rattle.text.specs.Form.{Stands}
-use Rattle.text.specs.Answer.{Matched, SameKey, wordAt}
+use Rattle.text.specs.Answer.{Matched}
+use Rattle.text.specs.Inner.{SameKey, wordAt}
 use Rattle.text.proofs.Forms.{stands-at}
 use Rattle.text.proofs.Numbers.{key-start, key-step}
 
@@ -73,12 +74,12 @@ module _ {t : List ℕ} {i : ℕ} {key : List ℕ} where
       let e : n ≡ length key = omega (arith, a .most) in
       let b : Alike t i key (length key) = subst (Alike t i key) e a in
       record {
-        whole = λ r. subst (Stands t i (i + length key)) (take-all (length key) key (omega arith)) (alike-stands b (length key) (omega arith));
+        same = λ r. subst (Stands t i (i + length key)) (take-all (length key) key (omega arith)) (alike-stands b (length key) (omega arith));
         other = λ r. absurd (let z : _≡_ {A = ℕ} 0 1 = cc in omega arith);
       }
 
   differs : (Stands t i (i + length key) key → ⊥) → SameKey t i key false
-  differs other = record { whole = λ r. absurd (let z : _≡_ {A = ℕ} 0 1 = cc in omega arith); other = λ r. other }
+  differs other = record { same = λ r. absurd (let z : _≡_ {A = ℕ} 0 1 = cc in omega arith); other = λ r. other }
 
   pub same-short : i ≤ length t → length t - i < length key → SameKey t i key false
   same-short h short = differs (λ s. omega (arith, s .within))
@@ -107,9 +108,9 @@ module _ {t : List ℕ} {i : ℕ} {key : List ℕ} where
 
 -- ---- all of the key
 
-pub matched-whole : (t : List ℕ) (i : ℕ) (key : List ℕ) (r : Bool) → SameKey t i key r → r ≡ true → Matched t i key (length key)
-matched-whole t i key r s e = record {
+pub matched-all : (t : List ℕ) (i : ℕ) (key : List ℕ) (r : Bool) → SameKey t i key r → r ≡ true → Matched t i key (length key)
+matched-all t i key r s e = record {
   most = omega arith;
-  stands = subst (Stands t i (i + length key)) (sym (take-all (length key) key (omega arith))) (s .whole e);
+  stands = subst (Stands t i (i + length key)) (sym (take-all (length key) key (omega arith))) (s .same e);
   ends = λ h. absurd (omega arith);
 }

@@ -94,14 +94,14 @@ broken-first t i least most e lm l1 h bad = record {
   begins = record {
     next = getD (dec most) 0 0;
     rest = drop 1 (dec most) ++ (e ∷ []);
-    whole = record { value = pos most; taken = (lm, omega arith); is = sym (ap (λ (l : List ℕ). l ++ (e ∷ [])) (first-of (dec most) (digits most .some))) };
+    belongs = record { value = pos most; taken = (lm, omega arith); is = sym (ap (λ (l : List ℕ). l ++ (e ∷ [])) (first-of (dec most) (digits most .some))) };
   };
   ends = never;
 }
   where
     never : i < length t → Begun (Of (number (plain least most) e)) (getD t i 0 ∷ []) → ⊥
     never inside b =
-        let v : (w : ℕ) × (least ≤ w) × (w ≤ most) × (getD t i 0 ∷ b .rest ≡ dec w ++ (e ∷ [])) = plain-value least most e _ (b .whole) in
+        let v : (w : ℕ) × (least ≤ w) × (w ≤ most) × (getD t i 0 ∷ b .rest ≡ dec w ++ (e ∷ [])) = plain-value least most e _ (b .belongs) in
         let f : First (v .0) (getD t i 0) = first (v .0) (getD t i 0) e (b .rest) [] (sym (v .3)) in
         ⊎-elim
         (λ g. let z : v .0 ≡ 0 = f .zero-alone (omega (arith, f .digit .low)) in omega (arith, v .1))
@@ -116,13 +116,13 @@ pub broken-later : (t : List ℕ) (i k v least most e : ℕ) → e < 48 → leas
 broken-later t i k v least most e he lv vm s other over = record {
   read = dec v;
   stands = s;
-  begins = record { next = e; rest = []; whole = record { value = pos v; taken = (lv, vm); is = refl } };
+  begins = record { next = e; rest = []; belongs = record { value = pos v; taken = (lv, vm); is = refl } };
   ends = never;
 }
   where
     never : k < length t → Begun (Of (number (plain least most) e)) (dec v ++ (getD t k 0 ∷ [])) → ⊥
     never inside b =
-        let x : (w : ℕ) × (least ≤ w) × (w ≤ most) × ((dec v ++ (getD t k 0 ∷ [])) ++ b .rest ≡ dec w ++ (e ∷ [])) = plain-value least most e _ (b .whole) in
+        let x : (w : ℕ) × (least ≤ w) × (w ≤ most) × ((dec v ++ (getD t k 0 ∷ [])) ++ b .rest ≡ dec w ++ (e ∷ [])) = plain-value least most e _ (b .belongs) in
         ⊎-elim (λ g. other inside (g .1)) (λ g. omega (arith, over inside (g .0) (g .1), g .2, x .2))
         (follows (x .0) v (getD t k 0) e (b .rest) [] he (sym (x .3) ∙ append-assoc (dec v) (getD t k 0 ∷ []) (b .rest)))
 
@@ -158,17 +158,17 @@ pub plus-broken : (t : List ℕ) (i k below most e : ℕ) → (i < length t → 
 plus-broken t i k below most e other h b = record {
   read = b .read;
   stands = b .stands;
-  begins = record { next = b .begins .next; rest = b .begins .rest; whole = plus-of below most e _ (b .begins .whole) };
+  begins = record { next = b .begins .next; rest = b .begins .rest; belongs = plus-of below most e _ (b .begins .belongs) };
   ends = never (b .read) (b .stands) (b .begins) (b .ends);
 }
   where
     never : (p : List ℕ) → Stands t i k p → Started (Of (number (plain 0 most) e)) p
         → (k < length t → Begun (Of (number (plain 0 most) e)) (p ++ (getD t k 0 ∷ [])) → ⊥)
         → k < length t → Begun (Of (number (signed below most) e)) (p ++ (getD t k 0 ∷ [])) → ⊥
-    never p s st ends inside x = by (x .whole .value) (x .whole .taken) (x .whole .is)
+    never p s st ends inside x = by (x .belongs .value) (x .belongs .taken) (x .belongs .is)
       where
         by : (z : ℤ) → Fit (signed below most) z → (p ++ (getD t k 0 ∷ [])) ++ x .rest ≡ decimal z ++ (e ∷ []) → ⊥
-        by (pos w) hz q = ends inside (record { rest = x .rest; whole = record { value = pos w; taken = hz; is = q } })
+        by (pos w) hz q = ends inside (record { rest = x .rest; belongs = record { value = pos w; taken = hz; is = q } })
         by (negsuc n) hz q = minus p s st q
           where
             minus : (p : List ℕ) → Stands t i k p → Started (Of (number (plain 0 most) e)) p → (p ++ (getD t k 0 ∷ [])) ++ x .rest ≡ 45 ∷ (dec (suc n) ++ (e ∷ [])) → ⊥
@@ -179,7 +179,7 @@ plus-broken t i k below most e other h b = record {
                 at : Stands t i k [] → k ≡ i
                 at s = sym (length-take-le k t (s .within)) ∙ ap length (s .is ∙ append-nil (take i t)) ∙ length-take-le i t h
             minus (c ∷ cs) s st q =
-                let v : (w : ℕ) × (0 ≤ w) × (w ≤ most) × ((c ∷ cs) ++ (st .next ∷ st .rest) ≡ dec w ++ (e ∷ [])) = plain-value 0 most e _ (st .whole) in
+                let v : (w : ℕ) × (0 ≤ w) × (w ≤ most) × ((c ∷ cs) ++ (st .next ∷ st .rest) ≡ dec w ++ (e ∷ [])) = plain-value 0 most e _ (st .belongs) in
                 let is : c ≡ 45 = ap (λ (l : List ℕ). getD l 0 0) q in
                 omega (arith, first (v .0) c e (cs ++ (st .next ∷ st .rest)) [] (sym (v .3)) .digit .low)
 
@@ -214,18 +214,18 @@ pub minus-broken : (t : List ℕ) (i k below most e : ℕ) → i < length t → 
 minus-broken t i k below most e h c b = record {
   read = 45 ∷ b .read;
   stands = stands-join t i (i + 1) k (45 ∷ []) (b .read) (minus-stands t i h c) (b .stands);
-  begins = record { next = b .begins .next; rest = b .begins .rest; whole = minus-of below most e _ (b .begins .whole) };
+  begins = record { next = b .begins .next; rest = b .begins .rest; belongs = minus-of below most e _ (b .begins .belongs) };
   ends = never;
 }
   where
     never : k < length t → Begun (Of (number (signed below most) e)) (45 ∷ (b .read ++ (getD t k 0 ∷ []))) → ⊥
-    never inside x = by (x .whole .value) (x .whole .taken) (x .whole .is)
+    never inside x = by (x .belongs .value) (x .belongs .taken) (x .belongs .is)
       where
         by : (z : ℤ) → Fit (signed below most) z → 45 ∷ ((b .read ++ (getD t k 0 ∷ [])) ++ x .rest) ≡ decimal z ++ (e ∷ []) → ⊥
         by (pos w) hz q = omega (arith, first w 45 e _ [] (sym q) .digit .low)
         by (negsuc n) hz q =
             b .ends inside
-            (record { rest = x .rest; whole = record { value = pos (suc n); taken = (omega arith, hz); is = ap (drop 1) q } })
+            (record { rest = x .rest; belongs = record { value = pos (suc n); taken = (omega arith, hz); is = ap (drop 1) q } })
 
 -- ---- lines
 
@@ -242,36 +242,36 @@ key-step t key i n hk ht e s =
     rw (← place, ← text) (stands-one t i (i + n) (take n key) s ht)
 
 module _ (t : List ℕ) (i n : ℕ) (key : List ℕ) (r : Range) (m : Matched t i key n) where
-  abbrev whole-key : length key ≤ n → Stands t i (i + n) key
-  whole-key h = subst (Stands t i (i + n)) (take-all n key h) (m .stands)
+  abbrev key-stands : length key ≤ n → Stands t i (i + n) key
+  key-stands h = subst (Stands t i (i + n)) (take-all n key h) (m .stands)
 
   pub line-read : (stop : ℕ) (z : ℤ) → length key ≤ n → ReadAs (number r 10) t (i + n) stop z → ReadAs (line key r) t i stop z
-  line-read stop z h a = record { taken = a .taken; stands = stands-join t i (i + n) stop key (decimal z ++ (10 ∷ [])) (whole-key h) (a .stands) }
+  line-read stop z h a = record { taken = a .taken; stands = stands-join t i (i + n) stop key (decimal z ++ (10 ∷ [])) (key-stands h) (a .stands) }
 
   pub line-broken : (k : ℕ) → length key ≤ n → Broken (Of (number r 10)) t (i + n) k → Broken (Of (line key r)) t i k
   line-broken k h b = record {
     read = key ++ b .read;
-    stands = stands-join t i (i + n) k key (b .read) (whole-key h) (b .stands);
+    stands = stands-join t i (i + n) k key (b .read) (key-stands h) (b .stands);
     begins = record {
       next = b .begins .next;
       rest = b .begins .rest;
-      whole = record {
-        value = b .begins .whole .value;
-        taken = b .begins .whole .taken;
-        is = append-assoc key (b .read) (b .begins .next ∷ b .begins .rest) ∙ ap (λ (l : List ℕ). key ++ l) (b .begins .whole .is);
+      belongs = record {
+        value = b .begins .belongs .value;
+        taken = b .begins .belongs .taken;
+        is = append-assoc key (b .read) (b .begins .next ∷ b .begins .rest) ∙ ap (λ (l : List ℕ). key ++ l) (b .begins .belongs .is);
       };
     };
     ends = λ inside x.
         b .ends inside
         (record {
           rest = x .rest;
-          whole = record {
-            value = x .whole .value;
-            taken = x .whole .taken;
+          belongs = record {
+            value = x .belongs .value;
+            taken = x .belongs .taken;
             is = cancel key _ _
                 (sym (append-assoc key (b .read ++ (getD t k 0 ∷ [])) (x .rest))
                 ∙ ap (λ (l : List ℕ). l ++ x .rest) (sym (append-assoc key (b .read) (getD t k 0 ∷ [])))
-                ∙ x .whole .is);
+                ∙ x .belongs .is);
           };
         });
   }
@@ -287,7 +287,7 @@ module _ (t : List ℕ) (i n : ℕ) (key : List ℕ) (r : Range) (m : Matched t 
         begins = record {
           next = getD key n 0;
           rest = drop (suc n) key ++ (decimal z ++ (10 ∷ []));
-          whole = record {
+          belongs = record {
             value = z;
             taken = hz;
             is = sym (append-assoc (take n key) (getD key n 0 ∷ drop (suc n) key) (decimal z ++ (10 ∷ []))) ∙ ap (λ (l : List ℕ). l ++ (decimal z ++ (10 ∷ []))) (sym key-is);
@@ -296,8 +296,8 @@ module _ (t : List ℕ) (i n : ℕ) (key : List ℕ) (r : Range) (m : Matched t 
         ends = λ inside x.
             m .ends h inside
             (ap (λ (l : List ℕ). getD l 0 0)
-            (cancel (take n key) (getD t (i + n) 0 ∷ x .rest) (getD key n 0 ∷ (drop (suc n) key ++ (decimal (x .whole .value) ++ (10 ∷ []))))
-            (sym (append-assoc (take n key) (getD t (i + n) 0 ∷ []) (x .rest)) ∙ x .whole .is
-            ∙ ap (λ (l : List ℕ). l ++ (decimal (x .whole .value) ++ (10 ∷ []))) key-is
-            ∙ append-assoc (take n key) (getD key n 0 ∷ drop (suc n) key) (decimal (x .whole .value) ++ (10 ∷ [])))));
+            (cancel (take n key) (getD t (i + n) 0 ∷ x .rest) (getD key n 0 ∷ (drop (suc n) key ++ (decimal (x .belongs .value) ++ (10 ∷ []))))
+            (sym (append-assoc (take n key) (getD t (i + n) 0 ∷ []) (x .rest)) ∙ x .belongs .is
+            ∙ ap (λ (l : List ℕ). l ++ (decimal (x .belongs .value) ++ (10 ∷ []))) key-is
+            ∙ append-assoc (take n key) (getD key n 0 ∷ drop (suc n) key) (decimal (x .belongs .value) ++ (10 ∷ [])))));
       }

@@ -10,11 +10,12 @@ use lib.Seq.{take-append-add, take-append-seam, length-take-le, getD-take}
 use lib.IntN.{ℤ, pos, negsuc}
 use Rattle.text.specs.declared.Natural.{Natural}
 use Rattle.text.specs.declared.Natural.the-variants as Natural
-use Rattle.text.specs.declared.Whole.{Whole}
-use Rattle.text.specs.declared.Whole.the-variants as Whole
+use Rattle.text.specs.declared.Signed.{Signed}
+use Rattle.text.specs.declared.Signed.the-variants as Signed
 use Rattle.text.specs.Form.{Form, Stands, ReadAs}
 use Rattle.text.specs.Decimal.{decimal, Range, Fit, number}
-use Rattle.text.specs.Answer.{NaturalIn, WholeIn, Matched, SameKey, Put}
+use Rattle.text.specs.Answer.{NaturalIn, SignedIn, Matched, Put}
+use Rattle.text.specs.Inner.{SameKey}
 use Rattle.text.proofs.Decimals.{order}
 use Rattle.text.proofs.Forms.{Free, stands-at, read-once, broken-not-read, broken-once}
 use Rattle.text.proofs.Numbers.{number-free}
@@ -36,13 +37,13 @@ module _ (f : Form ℤ) (free : Free f) (t : List ℕ) (i : ℕ) (h : i ≤ leng
   natural-settled (Natural.Wrong k) (Natural.Value v p) r s = absurd (broken-not-read f free t i k p (pos v) r s)
   natural-settled (Natural.Wrong j) (Natural.Wrong k) r s = ap Natural.Wrong (broken-once _ t i j k r s)
 
-  pub whole-settled : (a b : Whole) → WholeIn f t i a → WholeIn f t i b → a ≡ b
-  whole-settled (Whole.Value y p) (Whole.Value z q) r s =
+  pub signed-settled : (a b : Signed) → SignedIn f t i a → SignedIn f t i b → a ≡ b
+  signed-settled (Signed.Value y p) (Signed.Value z q) r s =
       let e : (y ≡ z) × (p ≡ q) = read-once f free t i p q y z h r s in
       cc (e .0, e .1)
-  whole-settled (Whole.Value z p) (Whole.Wrong k) r s = absurd (broken-not-read f free t i k p z s r)
-  whole-settled (Whole.Wrong k) (Whole.Value z p) r s = absurd (broken-not-read f free t i k p z r s)
-  whole-settled (Whole.Wrong j) (Whole.Wrong k) r s = ap Whole.Wrong (broken-once _ t i j k r s)
+  signed-settled (Signed.Value z p) (Signed.Wrong k) r s = absurd (broken-not-read f free t i k p z s r)
+  signed-settled (Signed.Wrong k) (Signed.Value z p) r s = absurd (broken-not-read f free t i k p z r s)
+  signed-settled (Signed.Wrong j) (Signed.Wrong k) r s = ap Signed.Wrong (broken-once _ t i j k r s)
 
 -- What is printed is read back as the number, wherever it stands.
 module _ (r : Range) (e : ℕ) (he : e < 48) (before after : List ℕ) where
@@ -60,11 +61,11 @@ module _ (r : Range) (e : ℕ) (he : e < 48) (before after : List ℕ) where
       natural-settled (number r e) (number-free r e he) _ (length before) (inside (pos v)) a _ p
       (record { taken = fit; stands = stands-in before (decimal (pos v) ++ (e ∷ [])) after })
 
-  pub whole-back : (z : ℤ) → Fit r z → (a : Whole) → WholeIn (number r e) (before ++ ((decimal z ++ (e ∷ [])) ++ after)) (length before) a
-      → a ≡ Whole.Value z (length before + length (decimal z ++ (e ∷ [])))
+  pub signed-text-back : (z : ℤ) → Fit r z → (a : Signed) → SignedIn (number r e) (before ++ ((decimal z ++ (e ∷ [])) ++ after)) (length before) a
+      → a ≡ Signed.Value z (length before + length (decimal z ++ (e ∷ [])))
   unfolding text-of
-  whole-back z fit a p =
-      whole-settled (number r e) (number-free r e he) _ (length before) (inside z) a _ p
+  signed-text-back z fit a p =
+      signed-settled (number r e) (number-free r e he) _ (length before) (inside z) a _ p
       (record { taken = fit; stands = stands-in before (decimal z ++ (e ∷ [])) after })
 
 -- ---- the smaller answers are settled too
@@ -82,8 +83,8 @@ matched-settled t i m n key h a b =
 
 pub same-settled : (t : List ℕ) (i : ℕ) (key : List ℕ) (r s : Bool) → SameKey t i key r → SameKey t i key s → r ≡ s
 same-settled t i key true true a b = refl
-same-settled t i key true false a b = absurd (b .other refl (a .whole refl))
-same-settled t i key false true a b = absurd (a .other refl (b .whole refl))
+same-settled t i key true false a b = absurd (b .other refl (a .same refl))
+same-settled t i key false true a b = absurd (a .other refl (b .same refl))
 same-settled t i key false false a b = refl
 
 pub put-settled : (old w new other : List ℕ) (i p q : ℕ) → Put old i w new p → Put old i w other q → (new ≡ other) × (p ≡ q)

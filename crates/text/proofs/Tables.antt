@@ -93,16 +93,16 @@ module _ (es : List Entry) (t : List ℕ) (p : ℕ) (zs : List ℤ) (a : ReadAs 
   pub lines-past : p < length t → RefusedAt (Of (lines es)) t p
   lines-past h = record {
     within = a .stands .within;
-    begins = record { rest = []; whole = record { value = zs; taken = a .taken; is = append-nil (take p t) ∙ a .stands .is } };
+    begins = record { rest = []; belongs = record { value = zs; taken = a .taken; is = append-nil (take p t) ∙ a .stands .is } };
     ends = λ inside b. longer b;
     none = λ o.
         longer
-        (record { rest = drop (suc p) t; whole = subst (Of (lines es)) (sym (take-append-drop (suc p) t)) o });
+        (record { rest = drop (suc p) t; belongs = subst (Of (lines es)) (sym (take-append-drop (suc p) t)) o });
   }
     where
       longer : Begun (Of (lines es)) (take (suc p) t) → ⊥
       longer b =
-          let o : Of (lines es) (take (suc p) t ++ b .rest) = b .whole in
+          let o : Of (lines es) (take (suc p) t ++ b .rest) = b .belongs in
           let is : linesOf es zs ++ (getD t p 0 ∷ b .rest) ≡ linesOf es (o .value) =
           sym (append-assoc (linesOf es zs) (getD t p 0 ∷ []) (b .rest))
           ∙ ap (λ (l : List ℕ). l ++ b .rest) (sym (stands-one t 0 p (linesOf es zs) (a .stands) h .is)) ∙ o .is
@@ -147,7 +147,7 @@ module _ (es : List Entry) (t : List ℕ) (p : ℕ) (zs : List ℤ) (a : ReadAs 
         ∙ append-assoc (linesOf es zs) (b .read ++ (getD t k 0 ∷ [])) (g .rest)
         in
         let v : (y : ℤ) × (m : List ℕ) × Fit (e .range) y × ((b .read ++ (getD t k 0 ∷ [])) ++ g .rest ≡ lineOf (e .key) y ++ m) =
-        behind ((b .read ++ (getD t k 0 ∷ [])) ++ g .rest) (subst (Of (lines (es ++ (e ∷ rest)))) text (g .whole))
+        behind ((b .read ++ (getD t k 0 ∷ [])) ++ g .rest) (subst (Of (lines (es ++ (e ∷ rest)))) text (g .belongs))
         in
         ⊎-elim
         (λ h. goes-on inside (g .rest) (v .0) (v .1) (v .2) (v .3) (omega (arith, length-append (b .read) (getD t k 0 ∷ []))))
@@ -162,24 +162,24 @@ module _ (es : List Entry) (t : List ℕ) (p : ℕ) (zs : List ℤ) (a : ReadAs 
             let s : (n : List ℕ) × (lineOf (e .key) y ≡ (b .read ++ (getD t k 0 ∷ [])) ++ n) × (n ++ m ≡ x) =
             splits (lineOf (e .key) y) m (b .read ++ (getD t k 0 ∷ [])) x (sym q) h
             in
-            b .ends inside (record { rest = s .0; whole = record { value = y; taken = fit; is = sym (s .1) } })
+            b .ends inside (record { rest = s .0; belongs = record { value = y; taken = fit; is = sym (s .1) } })
 
     pub lines-broken : (ws : List ℤ) → AllFit rest ws → RefusedAt (Of (lines (es ++ (e ∷ rest)))) t k
     lines-broken ws fit = record {
       within = b .stands .within;
-      begins = record { rest = (b .begins .next ∷ b .begins .rest) ++ linesOf rest ws; whole = record { value = zs ++ (o .value ∷ ws); taken = fit-append es (e ∷ rest) zs (o .value ∷ ws) (a .taken) (o .taken, fit); is = whole-is } };
+      begins = record { rest = (b .begins .next ∷ b .begins .rest) ++ linesOf rest ws; belongs = record { value = zs ++ (o .value ∷ ws); taken = fit-append es (e ∷ rest) zs (o .value ∷ ws) (a .taken) (o .taken, fit); is = text-is-all } };
       ends = longer;
-      none = λ x. ⊎-elim (λ h. longer h (record { rest = drop (suc k) t; whole = subst (Of (lines (es ++ (e ∷ rest)))) (sym (take-append-drop (suc k) t)) x })) (λ h. at-end h x) (below-or k (length t));
+      none = λ x. ⊎-elim (λ h. longer h (record { rest = drop (suc k) t; belongs = subst (Of (lines (es ++ (e ∷ rest)))) (sym (take-append-drop (suc k) t)) x })) (λ h. at-end h x) (below-or k (length t));
     }
       where
         o : Of (line (e .key) (e .range)) (b .read ++ (b .begins .next ∷ b .begins .rest))
-        o = b .begins .whole
+        o = b .begins .belongs
 
         upto : take k t ≡ linesOf es zs ++ b .read
         upto = stands-join t 0 p k (linesOf es zs) (b .read) (a .stands) (b .stands) .is
 
-        whole-is : take k t ++ ((b .begins .next ∷ b .begins .rest) ++ linesOf rest ws) ≡ linesOf (es ++ (e ∷ rest)) (zs ++ (o .value ∷ ws))
-        whole-is =
+        text-is-all : take k t ++ ((b .begins .next ∷ b .begins .rest) ++ linesOf rest ws) ≡ linesOf (es ++ (e ∷ rest)) (zs ++ (o .value ∷ ws))
+        text-is-all =
             ap (λ (l : List ℕ). l ++ ((b .begins .next ∷ b .begins .rest) ++ linesOf rest ws)) upto
             ∙ append-assoc (linesOf es zs) (b .read) ((b .begins .next ∷ b .begins .rest) ++ linesOf rest ws)
             ∙ ap (λ (l : List ℕ). linesOf es zs ++ l) (sym (append-assoc (b .read) (b .begins .next ∷ b .begins .rest) (linesOf rest ws)) ∙ ap (λ (l : List ℕ). l ++ linesOf rest ws) (o .is))

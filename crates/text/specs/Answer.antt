@@ -1,15 +1,14 @@
 -- What the readers' answers mean, over any form of numbers.
-use Prim.Native.Nat.{ℕ, _+_, _*_, _^_, _≤_, _<_}
+use Prim.Native.Nat.{ℕ, _+_, _^_, _≤_, _<_}
 use mathlib.Core.Path.{_≡_}
-use mathlib.Core.Bool.{Bool, true, false}
-use mathlib.Core.List.{List, [], _∷_, _++_}
+use mathlib.Core.List.{List, _++_}
 use lib.ListN.{length, take, drop, getD}
 use lib.Seq.{sets}
 use lib.IntN.{ℤ, pos}
 use Rattle.text.specs.declared.Natural.{Natural}
 use Rattle.text.specs.declared.Natural.the-variants as Natural
-use Rattle.text.specs.declared.Whole.{Whole}
-use Rattle.text.specs.declared.Whole.the-variants as Whole
+use Rattle.text.specs.declared.Signed.{Signed}
+use Rattle.text.specs.declared.Signed.the-variants as Signed
 use Rattle.text.specs.Form.{Form, Of, ReadAs, Broken, Stands}
 
 -- An unsigned value and the place after it, or the place where the text breaks off.
@@ -18,39 +17,24 @@ NaturalIn f t start (Natural.Value v stop) = ReadAs f t start stop (pos v)
 NaturalIn f t start (Natural.Wrong k) = Broken (Of f) t start k
 
 -- The same for a signed value.
-abbrev pub WholeIn : Form ℤ → List ℕ → ℕ → Whole → Type 0
-WholeIn f t start (Whole.Value z stop) = ReadAs f t start stop z
-WholeIn f t start (Whole.Wrong k) = Broken (Of f) t start k
+abbrev pub SignedIn : Form ℤ → List ℕ → ℕ → Signed → Type 0
+SignedIn f t start (Signed.Value z stop) = ReadAs f t start stop z
+SignedIn f t start (Signed.Wrong k) = Broken (Of f) t start k
 
 -- The place of an answer that is wrong.
 abbrev pub wrongAt : Natural → ℕ
 wrongAt (Natural.Value v stop) = 0
 wrongAt (Natural.Wrong k) = k
 
-abbrev pub wholeWrongAt : Whole → ℕ
-wholeWrongAt (Whole.Value z stop) = 0
-wholeWrongAt (Whole.Wrong k) = k
+abbrev pub signedWrongAt : Signed → ℕ
+signedWrongAt (Signed.Value z stop) = 0
+signedWrongAt (Signed.Wrong k) = k
 
 -- The first n bytes of the key stand in t from `start`, and no more of it does.
 pub record Matched (t : List ℕ) (start : ℕ) (key : List ℕ) (n : ℕ) : Type 0 where
   pub most : n ≤ length key
   pub stands : Stands t start (start + n) (take n key)
   pub ends : n < length key → start + n < length t → getD t (start + n) 0 ≡ getD key n 0 → ⊥
-
--- The whole key stands in t from `start`, or does not.
-pub record SameKey (t : List ℕ) (start : ℕ) (key : List ℕ) (r : Bool) : Type 0 where
-  pub whole : r ≡ true → Stands t start (start + length key) key
-  pub other : r ≡ false → Stands t start (start + length key) key → ⊥
-
--- four bytes as one number, the first the lowest
-abbrev pub wordAt : List ℕ → ℕ → ℕ
-wordAt t p = getD t p 0 + 256 * getD t (p + 1) 0 + 65536 * getD t (p + 2) 0 + 16777216 * getD t (p + 3) 0
-
--- b is the byte of a digit, or is not
-pub record DigitTold (b : ℕ) (r : Bool) : Type 0 where
-  pub low : r ≡ true → 48 ≤ b
-  pub high : r ≡ true → b ≤ 57
-  pub other : r ≡ false → 48 ≤ b → b ≤ 57 → ⊥
 
 -- w was written from `start`, where the buffer has room, nothing else changed, and `stop` is the place after it.
 pub record Put (old : List ℕ) (start : ℕ) (w new : List ℕ) (stop : ℕ) : Type 0 where

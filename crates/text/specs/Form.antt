@@ -19,13 +19,13 @@ pub record Of {A : Type 0} (f : Form A) (p : List ℕ) : Type 0 where
 -- Some text of the language begins with p.
 pub record Begun (L : List ℕ → Type 0) (p : List ℕ) : Type 0 where
   pub rest : List ℕ
-  pub whole : L (p ++ rest)
+  pub belongs : L (p ++ rest)
 
 -- Some text of the language begins with p and goes on after it.
 pub record Started (L : List ℕ → Type 0) (p : List ℕ) : Type 0 where
   pub next : ℕ
   pub rest : List ℕ
-  pub whole : L (p ++ (next ∷ rest))
+  pub belongs : L (p ++ (next ∷ rest))
 
 -- The bytes of t from `start` to `stop` are w, all inside t.
 pub record Stands (t : List ℕ) (start stop : ℕ) (w : List ℕ) : Type 0 where

@@ -3,3 +3,4 @@ pub mod Form
 pub mod Decimal
 pub mod Line
 pub mod Answer
+pub mod Inner

@@ -7,7 +7,8 @@ ghost use lib.ListN.{length};
 ghost use lib.IntN.{negsuc};
 ghost use Rattle.text.specs.Decimal.{number, plain, signed};
 ghost use Rattle.text.specs.Line.{line};
-ghost use Rattle.text.specs.Answer.{NaturalIn, WholeIn, wrongAt, wholeWrongAt, Matched, SameKey, wordAt, DigitTold, Asked, AskedSigned};
+ghost use Rattle.text.specs.Answer.{NaturalIn, SignedIn, wrongAt, signedWrongAt, Matched, Asked, AskedSigned};
+ghost use Rattle.text.specs.Inner.{SameKey, wordAt, DigitTold};
 
 // An unsigned number and the place after it, or the place of the first byte that cannot stand there.
 pub enum Natural {
@@ -16,13 +17,13 @@ pub enum Natural {
 }
 
 // The same for a signed number.
-pub enum Whole {
+pub enum Signed {
     Value(i64, usize),
     Wrong(usize),
 }
 
 impl Natural {
-    // The place of an answer that is wrong. Rules out: 0 for every answer; the place after a value.
+    // The place of an answer that is wrong. Ruled out: 0 for every answer; the place after a value.
     pub fn wrong_at(self) -> usize
         ensures { λ r. ⌜ r ≡ wrongAt self ⌝ }
     {
@@ -33,14 +34,14 @@ impl Natural {
     }
 }
 
-impl Whole {
-    // The same of a signed one. Rules out: 0 for every answer; the place after a value.
+impl Signed {
+    // The same of a signed one. Ruled out: 0 for every answer; the place after a value.
     pub fn wrong_at(self) -> usize
-        ensures { λ r. ⌜ r ≡ wholeWrongAt self ⌝ }
+        ensures { λ r. ⌜ r ≡ signedWrongAt self ⌝ }
     {
         match self {
-            Whole::Value(_, _) => 0,
-            Whole::Wrong(k) => k,
+            Signed::Value(_, _) => 0,
+            Signed::Wrong(k) => k,
         }
     }
 }
@@ -54,7 +55,7 @@ fn minus_one_less(m: u64) -> i64
 }
 
 // How many bytes of the key stand in t from `start`.
-// Rules out: 0 for a key that is wrong in its last byte only; the whole key where the text stops inside it.
+// Ruled out: 0 for a key that is wrong in its last byte only; the whole key where the text stops inside it.
 pub fn matched(t: &[u8], start: usize, key: &[u8]) -> usize
     requires { ⌜ start ≤ length (now t) ⌝ }
     ensures { λ r. ⌜ Matched (now (t .entry)) start (now (key .entry)) r ⌝ }
@@ -84,7 +85,7 @@ fn agreed(t: &[u8], start: usize, key: &[u8]) -> usize
 }
 
 // Whether the whole key stands in t from `start`. Room is tested once, and four bytes are compared as one number.
-// Rules out: true for a key whose last byte differs; true where the text stops inside the key.
+// Ruled out: true for a key whose last byte differs; true where the text stops inside the key.
 fn same(t: &[u8], start: usize, key: &[u8]) -> bool
     requires { ⌜ start ≤ length (now t) ⌝ }
     ensures { λ r. ⌜ SameKey (now (t .entry)) start (now (key .entry)) r ⌝ }
@@ -117,14 +118,14 @@ fn word(t: &[u8], p: usize) -> u64
     t[p] as u64 + 256 * t[p + 1] as u64 + 65536 * t[p + 2] as u64 + 16777216 * t[p + 3] as u64
 }
 
-// Whether b is a digit's byte. Rules out: 47 or 58 taken for a digit; 48 or 57 for none.
+// Whether b is a digit's byte. Ruled out: 47 or 58 taken for a digit; 48 or 57 for none.
 fn digit(b: u8) -> bool
     ensures { λ r. ⌜ DigitTold b r ⌝ }
 {
     b >= 48 && b <= 57
 }
 
-// Whether 10 v + d, which may be too large for 64 bits, is above `most`. Rules out: the border itself; a sum that wraps.
+// Whether 10 v + d, which may be too large for 64 bits, is above `most`. Ruled out: the border itself; a sum that wraps.
 fn exceeds(v: u64, d: u64, most: u64) -> bool
     ensures { λ r. ⌜ r ≡ ltb most (10 * v + d) ⌝ }
 {
@@ -135,7 +136,7 @@ fn exceeds(v: u64, d: u64, most: u64) -> bool
 }
 
 // Reads an unsigned number from `least`, 0 or 1, to `most`, ended by the byte `end`, which is below the digits.
-// One reader for every width: the bounds say which. Rules out: 18446744073709551616 noticed after its last digit; 01 read as 1.
+// One reader for every width: the bounds say which. Ruled out: 18446744073709551616 noticed after its last digit; 01 read as 1.
 pub fn read_natural(t: &[u8], start: usize, least: u64, most: u64, end: u8) -> Natural
     requires { ⌜ Asked (now t) start least most end ⌝ }
     ensures { λ r. ⌜ NaturalIn (number (plain least most) end) (now (t .entry)) start r ⌝ }
@@ -186,28 +187,28 @@ pub fn read_natural(t: &[u8], start: usize, least: u64, most: u64, end: u8) -> N
 }
 
 // Reads a signed number from -`below` to `most`, ended by the byte `end`.
-// Rules out: -0 read as 0; -9223372036854775809 read at all.
-pub fn read_whole(t: &[u8], start: usize, below: u64, most: u64, end: u8) -> Whole
+// Ruled out: -0 read as 0; -9223372036854775809 read at all.
+pub fn read_signed(t: &[u8], start: usize, below: u64, most: u64, end: u8) -> Signed
     requires { ⌜ AskedSigned (now t) start below most end ⌝ }
-    ensures { λ r. ⌜ WholeIn (number (signed below most) end) (now (t .entry)) start r ⌝ }
+    ensures { λ r. ⌜ SignedIn (number (signed below most) end) (now (t .entry)) start r ⌝ }
 {
     if start >= t.len() {
-        return Whole::Wrong(start);
+        return Signed::Wrong(start);
     }
     if t[start] == 45 {
         return match read_natural(t, start + 1, 1, below, end) {
-            Natural::Value(v, p) => Whole::Value(minus_one_less(v - 1), p),
-            Natural::Wrong(k) => Whole::Wrong(k),
+            Natural::Value(v, p) => Signed::Value(minus_one_less(v - 1), p),
+            Natural::Wrong(k) => Signed::Wrong(k),
         };
     }
     match read_natural(t, start, 0, most, end) {
-        Natural::Value(v, p) => Whole::Value(v as i64, p),
-        Natural::Wrong(k) => Whole::Wrong(k),
+        Natural::Value(v, p) => Signed::Value(v as i64, p),
+        Natural::Wrong(k) => Signed::Wrong(k),
     }
 }
 
 // Reads a line with an unsigned number. The key ends with `=`.
-// Rules out: a wrong key refused at the line's first byte; a value without byte 10 read.
+// Ruled out: a wrong key refused at the line's first byte; a value without byte 10 read.
 pub fn read_line(t: &[u8], start: usize, key: &[u8], least: u64, most: u64) -> Natural
     requires { ⌜ Asked (now t) start least most 10 ⌝ }
     ensures { λ r. ⌜ NaturalIn (line (now (key .entry)) (plain least most)) (now (t .entry)) start r ⌝ }
@@ -220,14 +221,14 @@ pub fn read_line(t: &[u8], start: usize, key: &[u8], least: u64, most: u64) -> N
 }
 
 // Reads a line with a signed number.
-// Rules out: `tonnes=-` refused at the minus rather than behind it; a value above the range read.
-pub fn read_signed_line(t: &[u8], start: usize, key: &[u8], below: u64, most: u64) -> Whole
+// Ruled out: `tonnes=-` refused at the minus rather than behind it; a value above the range read.
+pub fn read_signed_line(t: &[u8], start: usize, key: &[u8], below: u64, most: u64) -> Signed
     requires { ⌜ AskedSigned (now t) start below most 10 ⌝ }
-    ensures { λ r. ⌜ WholeIn (line (now (key .entry)) (signed below most)) (now (t .entry)) start r ⌝ }
+    ensures { λ r. ⌜ SignedIn (line (now (key .entry)) (signed below most)) (now (t .entry)) start r ⌝ }
 {
     let n = matched(t, start, key);
     if n < key.len() {
-        return Whole::Wrong(start + n);
+        return Signed::Wrong(start + n);
     }
-    read_whole(t, start + n, below, most, 10)
+    read_signed(t, start + n, below, most, 10)
 }

@@ -21,7 +21,7 @@ fn put(buf: &mut [u8], at: usize, b: u8)
 }
 
 // Writes the bytes of w from `at`, and gives the place after them.
-// Rules out: a byte after w's end changed; the buffer's end given as the place.
+// Ruled out: a byte after w's end changed; the buffer's end given as the place.
 pub fn put_bytes(buf: &mut [u8], at: usize, w: &[u8]) -> usize
     requires { ⌜ at + length (now w) < 2 ^ 64 ⌝ }
     ensures { λ r. ⌜ Put (now (buf .entry)) at (now (w .entry)) (now (buf .exit)) r ⌝ }
@@ -35,7 +35,7 @@ pub fn put_bytes(buf: &mut [u8], at: usize, w: &[u8]) -> usize
 }
 
 // Writes the digits of v from `at`, and gives the place after them.
-// Rules out: the digits backwards; nothing written for 0.
+// Ruled out: the digits backwards; nothing written for 0.
 pub fn put_natural(buf: &mut [u8], at: usize, v: u64) -> usize
     requires { ⌜ at + length (dec v) < 2 ^ 64 ⌝ }
     ensures { λ r. ⌜ Put (now (buf .entry)) at (dec v) (now (buf .exit)) r ⌝ }
@@ -59,8 +59,8 @@ fn short_of_minus_one(z: i64) -> u64
 }
 
 // Writes z, with a minus where it is negative.
-// Rules out: -0 for 0; a wrong digit for the least number, which has no negative.
-pub fn put_whole(buf: &mut [u8], at: usize, z: i64) -> usize
+// Ruled out: -0 for 0; a wrong digit for the least number, which has no negative.
+pub fn put_signed(buf: &mut [u8], at: usize, z: i64) -> usize
     requires { ⌜ at + length (decimal z) < 2 ^ 64 ⌝ }
     ensures { λ r. ⌜ Put (now (buf .entry)) at (decimal z) (now (buf .exit)) r ⌝ }
 {
@@ -83,7 +83,7 @@ fn end_line(buf: &mut [u8], at: usize) -> usize
 }
 
 // Writes a line: the key, which ends with `=`, the number and byte 10.
-// Rules out: a line without its byte 10; byte 10 one place further on.
+// Ruled out: a line without its byte 10; byte 10 one place further on.
 pub fn put_line(buf: &mut [u8], at: usize, key: &[u8], v: u64) -> usize
     requires { ⌜ at + length (lineOf (now key) (pos v)) < 2 ^ 64 ⌝ }
     ensures { λ r. ⌜ Put (now (buf .entry)) at (lineOf (now (key .entry)) (pos v)) (now (buf .exit)) r ⌝ }
@@ -94,12 +94,12 @@ pub fn put_line(buf: &mut [u8], at: usize, key: &[u8], v: u64) -> usize
 }
 
 // Writes a line with a signed number.
-// Rules out: the minus before the key; a place after the line that counts no minus.
+// Ruled out: the minus before the key; a place after the line that counts no minus.
 pub fn put_signed_line(buf: &mut [u8], at: usize, key: &[u8], z: i64) -> usize
     requires { ⌜ at + length (lineOf (now key) z) < 2 ^ 64 ⌝ }
     ensures { λ r. ⌜ Put (now (buf .entry)) at (lineOf (now (key .entry)) z) (now (buf .exit)) r ⌝ }
 {
     let p = put_bytes(buf, at, key);
-    let q = put_whole(buf, p, z);
+    let q = put_signed(buf, p, z);
     end_line(buf, q)
 }

@@ -1,3 +1,4 @@
+-- `drainage_report::put_answer` meets its contract: a sheet is never too long for the buffer. Assumes nothing.
 use Rattle.drainage_report.proofs.Laws.{sheet-leads, never-short, answer-leads}
 use native.Mathlib.Omega.{arith}
 use mathlib.Core.Path.{refl, _∙_}
@@ -6,9 +7,7 @@ use Rattle.drainage_report.proofs.put_answer.Statement.{statement}
 use Rattle.drainage_report.proofs.put_answer.Tie as tie
 use Rattle.drainage_report.proofs.put_answer.Reads as reads
 use Rattle.drainage_report.proofs.put_answer.Lts as lts
-use Rattle.drainage_judge.proofs.Refusal.device.Reads as device-reads
-use Rattle.drainage_judge.proofs.Refusal.number.Reads as number-reads
-use Rattle.drainage_judge.proofs.Refusal.place.Reads as place-reads
+use Rattle.refusals.proofs.Refusal.told.Reads as told-reads
 use Rattle.drainage_report.proofs.put_refusal.Reads as put-refusal-reads
 use Rattle.sheet_text.proofs.write.Reads as write-reads
 mod PlaceNames
@@ -23,20 +22,14 @@ write-requires c κs = search needs
 enum-known-n : tie.Need-enum-known-n
 enum-known-n c = search needs
 
-enum-known-n-2 : tie.Need-enum-known-n-2
-enum-known-n-2 c = search needs
+enum-told : tie.Need-enum-told
+enum-told c = search needs
 
 enum-known-a-2 : tie.Need-enum-known-a-2
 enum-known-a-2 c = search needs
 
-number-requires : tie.Need-number-requires
-number-requires c κs = search needs
-
-device-requires : tie.Need-device-requires
-device-requires c κs = search needs
-
-place-requires : tie.Need-place-requires
-place-requires c κs = search needs
+told-requires : tie.Need-told-requires
+told-requires c κs = search needs
 
 put-refusal-requires : tie.Need-put-refusal-requires
 put-refusal-requires c κs = start·put-refusal-requires c .pre
@@ -52,7 +45,7 @@ same-length-2 c = search needs
 
 returns-2 : tie.Need-returns-2
 returns-2 c =
-    absurd (never-short (start·returns-2 c .args .a) _ _ 0 _ (write·returns-2 c .write .result) _ (n2·returns-2 c .n2 .given .1)
+    absurd (never-short (start·returns-2 c .args .a) _ _ 0 _ (write·returns-2 c .write .result) (match2·returns-2 c .match2 .keys2)
     (write·returns-2 c .write .ensures) (start·returns-2 c .pre))
 
 same-length-3 : tie.Need-same-length-3
@@ -60,8 +53,7 @@ same-length-3 c = search needs
 
 returns-3 : tie.Need-returns-3
 returns-3 c =
-    answer-leads _ _ _ _ _ _ _ _ (a2·returns-3 c .a2 .given .1) (number·returns-3 c .number .ensures) (device·returns-3 c .device .ensures)
-    (place·returns-3 c .place .ensures) (put-refusal·returns-3 c .put-refusal .ensures)
+    answer-leads _ _ _ _ _ _ (a2·returns-3 c .a2 .given .1) (told·returns-3 c .told .ensures) (put-refusal·returns-3 c .put-refusal .ensures)
 
 pub put-answer-spec : {M : Type 1} → statement M
 put-answer-spec =
@@ -70,11 +62,9 @@ put-answer-spec =
     enum-known-a
     write-requires
     enum-known-n
-    enum-known-n-2
+    enum-told
     enum-known-a-2
-    number-requires
-    device-requires
-    place-requires
+    told-requires
     put-refusal-requires
     same-length
     returns

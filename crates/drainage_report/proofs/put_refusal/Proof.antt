@@ -1,3 +1,4 @@
+-- `drainage_report::put_refusal` meets its contract: the three lines one after the other. Assumes nothing.
 use Rattle.text.proofs.Writing.{put-long}
 use mathlib.Core.List.{List}
 use Rattle.drainage_report.proofs.Laws.{line-most, refusal-leads}

@@ -1,3 +1,4 @@
+-- `drainage_report::quantified` meets its contract: what it lends on is what the record asks for. Assumes nothing.
 use Rattle.drainage_report.proofs.Laws.{part-long}
 use Rattle.drainage_report.proofs.Laws.{lesser-first, quantified-is}
 use Rattle.steps.proofs.Tests.{cells-fit}

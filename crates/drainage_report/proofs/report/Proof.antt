@@ -1,4 +1,5 @@
-use Rattle.drainage_report.proofs.Whole.{ready-for, read-long, reported-refusal, reported-record}
+-- `drainage_report::report` meets its contract: what its steps promise, together. Assumes nothing.
+use Rattle.drainage_report.proofs.Job.{ready-for, read-long, reported-refusal, reported-record}
 use Rattle.columns.specs.Series.{seriesOf, checksOf, fuelOf, seriesNow}
 use Rattle.drainage_report.specs.Report.{readerRows}
 use Prim.Native.Nat.{ℕ}
@@ -10,9 +11,7 @@ use Rattle.drainage_report.proofs.report.Statement.{statement}
 use Rattle.drainage_report.proofs.report.Tie as tie
 use Rattle.drainage_report.proofs.report.Reads as reads
 use Rattle.drainage_report.proofs.report.Lts as lts
-use Rattle.drainage_record.proofs.ReadAnswer.device.Reads as device-reads
-use Rattle.drainage_record.proofs.ReadAnswer.number.Reads as number-reads
-use Rattle.drainage_record.proofs.ReadAnswer.place.Reads as place-reads
+use Rattle.drainage_record.proofs.ReadAnswer.told.Reads as told-reads
 use Rattle.drainage_record.proofs.read.Reads as read-reads
 use Rattle.drainage_report.proofs.put_answer.Reads as put-answer-reads
 use Rattle.drainage_report.proofs.put_refusal.Reads as put-refusal-reads
@@ -26,14 +25,11 @@ read-requires c κs = search needs
 enum-known-a : tie.Need-enum-known-a
 enum-known-a c = search needs
 
-number-requires : tie.Need-number-requires
-number-requires c κs = search needs
+enum-told : tie.Need-enum-told
+enum-told c = search needs
 
-device-requires : tie.Need-device-requires
-device-requires c κs = search needs
-
-place-requires : tie.Need-place-requires
-place-requires c κs = search needs
+told-requires : tie.Need-told-requires
+told-requires c κs = search needs
 
 put-refusal-requires : tie.Need-put-refusal-requires
 put-refusal-requires c κs = search needs
@@ -66,8 +62,8 @@ returns c =
             flow = start·returns c .args .flow-used .now;
             content = start·returns c .args .content-used .now;
           };
-    }) _ _ _ _ (read·returns c .read .result) _ _ _ (match·returns c .match .keys2) (read·returns c .read .ensures) (number·returns c .number .ensures)
-    (device·returns c .device .ensures) (place·returns c .place .ensures) (c .put-refusal .ensures)
+    }) _ _ _ _ (read·returns c .read .result) _ (match·returns c .match .keys2) (read·returns c .read .ensures) (told·returns c .told .ensures)
+    (c .put-refusal .ensures)
 
 slice-aggregate-quantified : tie.Need-slice-aggregate-quantified
 unfolding readerRows
@@ -306,9 +302,8 @@ report-spec =
     (tie.spec
     read-requires
     enum-known-a
-    number-requires
-    device-requires
-    place-requires
+    enum-told
+    told-requires
     put-refusal-requires
     same-length
     same-length-2

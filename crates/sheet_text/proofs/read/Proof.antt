@@ -10,9 +10,10 @@ use mir.Val.{toZ, ofZ}
 use Rattle.text.specs.Form.{ReadAs}
 use Rattle.text.specs.Line.{lines}
 use Rattle.sheet_text.specs.Sheet.{schema, valuesOf}
-use Rattle.sheet_text.specs.Read.{volumesOf}
+use Rattle.sheet_text.specs.Read.{Refused}
+use Rattle.sheet_text.specs.Head.{volumesOf}
 use Rattle.text.proofs.Lines.{line-asked}
-use Rattle.sheet_text.proofs.Steps.{natural-step, whole-step, whole-fit, natural-refused, whole-refused, head-read, head-refused, read-past, read-all}
+use Rattle.sheet_text.proofs.Steps.{natural-step, signed-step, read-fit, natural-refused, signed-refused, head-read, head-refused, read-past, read-all}
 use Rattle.sheet_text.proofs.Steps.{asked-signed, signed-back}
 use Rattle.sheet_text.proofs.read.Statement.{statement}
 use Rattle.sheet_text.proofs.read.Tie as tie
@@ -75,12 +76,12 @@ values13 c = values12 (known-told5·values13 c) ++ ((a13·values13 c .a13 .given
 
 fact13 : (c : tie.After-known-told6) → ReadAs (lines (take 13 schema)) (now (start13 c .args .t)) 0 (a13·fact13 c .a13 .given .0 .1 .0) (values13 c)
 unfolding schema
-fact13 c = whole-step 12 (omega arith) (fact12 (known-told5·fact13 c)) (a13·fact13 c .a13 .given .1) (read-signed-line·fact13 c .read-signed-line .ensures)
+fact13 c = signed-step 12 (omega arith) (fact12 (known-told5·fact13 c)) (a13·fact13 c .a13 .given .1) (read-signed-line·fact13 c .read-signed-line .ensures)
 
 back13 : (c : tie.After-known-told6) → toZ w64 (ofZ w64 (a13·back13 c .a13 .given .0 .0)) ≡ a13·back13 c .a13 .given .0 .0
 unfolding schema
 back13 c =
-    signed-back (a13·back13 c .a13 .given .0 .0) (whole-fit 12 (omega arith) (fact12 (known-told5·back13 c)) (a13·back13 c .a13 .given .1)
+    signed-back (a13·back13 c .a13 .given .0 .0) (read-fit 12 (omega arith) (fact12 (known-told5·back13 c)) (a13·back13 c .a13 .given .1)
     (read-signed-line·back13 c .read-signed-line .ensures))
 
 abbrev start14 : tie.After-known-told7 → tie.Start
@@ -91,12 +92,12 @@ values14 c = values13 (known-told6·values14 c) ++ ((a14·values14 c .a14 .given
 
 fact14 : (c : tie.After-known-told7) → ReadAs (lines (take 14 schema)) (now (start14 c .args .t)) 0 (a14·fact14 c .a14 .given .0 .1 .0) (values14 c)
 unfolding schema
-fact14 c = whole-step 13 (omega arith) (fact13 (known-told6·fact14 c)) (a14·fact14 c .a14 .given .1) (read-signed-line2·fact14 c .read-signed-line2 .ensures)
+fact14 c = signed-step 13 (omega arith) (fact13 (known-told6·fact14 c)) (a14·fact14 c .a14 .given .1) (read-signed-line2·fact14 c .read-signed-line2 .ensures)
 
 back14 : (c : tie.After-known-told7) → toZ w64 (ofZ w64 (a14·back14 c .a14 .given .0 .0)) ≡ a14·back14 c .a14 .given .0 .0
 unfolding schema
 back14 c =
-    signed-back (a14·back14 c .a14 .given .0 .0) (whole-fit 13 (omega arith) (fact13 (known-told6·back14 c)) (a14·back14 c .a14 .given .1)
+    signed-back (a14·back14 c .a14 .given .0 .0) (read-fit 13 (omega arith) (fact13 (known-told6·back14 c)) (a14·back14 c .a14 .given .1)
     (read-signed-line2·back14 c .read-signed-line2 .ensures))
 
 abbrev start15 : tie.After-known-told8 → tie.Start
@@ -123,7 +124,8 @@ wrong-at-requires c κs = tt
 
 returns : tie.Need-returns
 returns c =
-    head-refused (read-head·returns c .read-head .result) (match·returns c .match .keys2) (c .wrong-at .ensures) (read-head·returns c .read-head .ensures)
+    Refused.noSheet
+    (head-refused (read-head·returns c .read-head .result) (match·returns c .match .keys2) (c .wrong-at .ensures) (read-head·returns c .read-head .ensures))
 
 slice-aggregate-read-line : tie.Need-slice-aggregate-read-line
 slice-aggregate-read-line c = refl
@@ -143,8 +145,9 @@ wrong-at-requires-2 c κs = tt
 returns-2 : tie.Need-returns-2
 unfolding schema
 returns-2 c =
-    natural-refused 8 (omega arith) (fact8 (known-told·returns-2 c)) (read-line·returns-2 c .read-line .result) (match2·returns-2 c .match2 .keys2)
-    (c .wrong-at2 .ensures) (read-line·returns-2 c .read-line .ensures)
+    Refused.noSheet
+    (natural-refused 8 (omega arith) (fact8 (known-told·returns-2 c)) (read-line·returns-2 c .read-line .result) (match2·returns-2 c .match2 .keys2)
+    (c .wrong-at2 .ensures) (read-line·returns-2 c .read-line .ensures))
 
 slice-aggregate-read-line-2 : tie.Need-slice-aggregate-read-line-2
 slice-aggregate-read-line-2 c = refl
@@ -164,8 +167,9 @@ wrong-at-requires-3 c κs = tt
 returns-3 : tie.Need-returns-3
 unfolding schema
 returns-3 c =
-    natural-refused 9 (omega arith) (fact9 (known-told2·returns-3 c)) (read-line2·returns-3 c .read-line2 .result) (match3·returns-3 c .match3 .keys2)
-    (c .wrong-at3 .ensures) (read-line2·returns-3 c .read-line2 .ensures)
+    Refused.noSheet
+    (natural-refused 9 (omega arith) (fact9 (known-told2·returns-3 c)) (read-line2·returns-3 c .read-line2 .result) (match3·returns-3 c .match3 .keys2)
+    (c .wrong-at3 .ensures) (read-line2·returns-3 c .read-line2 .ensures))
 
 slice-aggregate-read-line-3 : tie.Need-slice-aggregate-read-line-3
 slice-aggregate-read-line-3 c = refl
@@ -185,8 +189,9 @@ wrong-at-requires-4 c κs = tt
 returns-4 : tie.Need-returns-4
 unfolding schema
 returns-4 c =
-    natural-refused 10 (omega arith) (fact10 (known-told3·returns-4 c)) (read-line3·returns-4 c .read-line3 .result) (match4·returns-4 c .match4 .keys2)
-    (c .wrong-at4 .ensures) (read-line3·returns-4 c .read-line3 .ensures)
+    Refused.noSheet
+    (natural-refused 10 (omega arith) (fact10 (known-told3·returns-4 c)) (read-line3·returns-4 c .read-line3 .result) (match4·returns-4 c .match4 .keys2)
+    (c .wrong-at4 .ensures) (read-line3·returns-4 c .read-line3 .ensures))
 
 slice-aggregate-read-line-4 : tie.Need-slice-aggregate-read-line-4
 slice-aggregate-read-line-4 c = refl
@@ -206,8 +211,9 @@ wrong-at-requires-5 c κs = tt
 returns-5 : tie.Need-returns-5
 unfolding schema
 returns-5 c =
-    natural-refused 11 (omega arith) (fact11 (known-told4·returns-5 c)) (read-line4·returns-5 c .read-line4 .result) (match5·returns-5 c .match5 .keys2)
-    (c .wrong-at5 .ensures) (read-line4·returns-5 c .read-line4 .ensures)
+    Refused.noSheet
+    (natural-refused 11 (omega arith) (fact11 (known-told4·returns-5 c)) (read-line4·returns-5 c .read-line4 .result) (match5·returns-5 c .match5 .keys2)
+    (c .wrong-at5 .ensures) (read-line4·returns-5 c .read-line4 .ensures))
 
 slice-aggregate-read-signed-line : tie.Need-slice-aggregate-read-signed-line
 slice-aggregate-read-signed-line c = refl
@@ -227,8 +233,9 @@ wrong-at-requires-6 c κs = tt
 returns-6 : tie.Need-returns-6
 unfolding schema
 returns-6 c =
-    whole-refused 12 (omega arith) (fact12 (known-told5·returns-6 c)) (read-signed-line·returns-6 c .read-signed-line .result)
-    (match6·returns-6 c .match6 .keys2) (c .wrong-at6 .ensures) (read-signed-line·returns-6 c .read-signed-line .ensures)
+    Refused.noSheet
+    (signed-refused 12 (omega arith) (fact12 (known-told5·returns-6 c)) (read-signed-line·returns-6 c .read-signed-line .result)
+    (match6·returns-6 c .match6 .keys2) (c .wrong-at6 .ensures) (read-signed-line·returns-6 c .read-signed-line .ensures))
 
 slice-aggregate-read-signed-line-2 : tie.Need-slice-aggregate-read-signed-line-2
 slice-aggregate-read-signed-line-2 c = refl
@@ -248,8 +255,9 @@ wrong-at-requires-7 c κs = tt
 returns-7 : tie.Need-returns-7
 unfolding schema
 returns-7 c =
-    whole-refused 13 (omega arith) (fact13 (known-told6·returns-7 c)) (read-signed-line2·returns-7 c .read-signed-line2 .result)
-    (match7·returns-7 c .match7 .keys2) (c .wrong-at7 .ensures) (read-signed-line2·returns-7 c .read-signed-line2 .ensures)
+    Refused.noSheet
+    (signed-refused 13 (omega arith) (fact13 (known-told6·returns-7 c)) (read-signed-line2·returns-7 c .read-signed-line2 .result)
+    (match7·returns-7 c .match7 .keys2) (c .wrong-at7 .ensures) (read-signed-line2·returns-7 c .read-signed-line2 .ensures))
 
 slice-aggregate-read-line-5 : tie.Need-slice-aggregate-read-line-5
 slice-aggregate-read-line-5 c = refl
@@ -269,11 +277,12 @@ wrong-at-requires-8 c κs = tt
 returns-8 : tie.Need-returns-8
 unfolding schema
 returns-8 c =
-    natural-refused 14 (omega arith) (fact14 (known-told7·returns-8 c)) (read-line5·returns-8 c .read-line5 .result) (match8·returns-8 c .match8 .keys2)
-    (c .wrong-at8 .ensures) (read-line5·returns-8 c .read-line5 .ensures)
+    Refused.noSheet
+    (natural-refused 14 (omega arith) (fact14 (known-told7·returns-8 c)) (read-line5·returns-8 c .read-line5 .result) (match8·returns-8 c .match8 .keys2)
+    (c .wrong-at8 .ensures) (read-line5·returns-8 c .read-line5 .ensures))
 
 returns-9 : tie.Need-returns-9
-returns-9 c = read-past (fact15 (known-told8·returns-9 c)) (omega (arith, c .if1 .taken))
+returns-9 c = Refused.noSheet (read-past (fact15 (known-told8·returns-9 c)) (omega (arith, c .if1 .taken)))
 
 returns-10 : tie.Need-returns-10
 unfolding valuesOf volumesOf

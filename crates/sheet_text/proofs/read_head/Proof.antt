@@ -9,7 +9,7 @@ use Rattle.text.specs.Form.{ReadAs}
 use Rattle.text.specs.Line.{lines}
 use Rattle.text.proofs.Tables.{lines-none}
 use Rattle.sheet_text.specs.Sheet.{schema}
-use Rattle.sheet_text.specs.Read.{volumesOf}
+use Rattle.sheet_text.specs.Head.{volumesOf}
 use Rattle.text.proofs.Lines.{line-asked}
 use Rattle.sheet_text.proofs.Steps.{natural-step, natural-refused}
 use Rattle.sheet_text.proofs.read_head.Statement.{statement}

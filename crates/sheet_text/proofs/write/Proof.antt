@@ -5,6 +5,7 @@ use native.Mathlib.Omega.{arith}
 use mathlib.Core.List.{List, _++_}
 use denote.Ref.{now}
 use Rattle.sheet_text.specs.Sheet.{textOf}
+use Rattle.sheet_text.specs.Write.{Refused}
 use Rattle.sheet_text.proofs.Steps.{nothing, put-short, put-done}
 use borrow.Author.Needs.{needs}
 use Rattle.sheet_text.proofs.write.Statement.{statement}
@@ -26,11 +27,12 @@ same-length c = search needs
 
 returns : tie.Need-returns
 returns c =
-    put-short (start·returns c .args .f) (now (start·returns c .args .buf)) (put-sheet·returns c .put-sheet .last .1 .0 ++ now (start·returns c .args .buf))
+    Refused.shortBuffer
+    (put-short (start·returns c .args .f) (now (start·returns c .args .buf)) (put-sheet·returns c .put-sheet .last .1 .0 ++ now (start·returns c .args .buf))
     (put-sheet·returns c .put-sheet .result)
     (ap (λ (x : List ℕ). x ++ now (start·returns c .args .buf))
     (nothing (put-sheet·returns c .put-sheet .last .1 .0) (textOf (start·returns c .args .f)) (put-sheet·returns c .put-sheet .ensures .0 .is)))
-    (put-sheet·returns c .put-sheet .ensures .0 .stops) (omega (arith, c .if1 .taken)) (put-sheet·returns c .put-sheet .ensures .1)
+    (put-sheet·returns c .put-sheet .ensures .0 .stops) (omega (arith, c .if1 .taken)) (put-sheet·returns c .put-sheet .ensures .1))
 
 put-sheet-requires-2 : tie.Need-put-sheet-requires-2
 put-sheet-requires-2 c κs = search needs

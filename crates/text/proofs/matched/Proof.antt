@@ -1,7 +1,7 @@
 -- `text::matched` meets its contract: by the quick test, or byte by byte. Assumes nothing.
 use denote.Ref.{now}
 use borrow.Author.Needs.{needs}
-use Rattle.text.proofs.Keys.{matched-whole}
+use Rattle.text.proofs.Keys.{matched-all}
 use Rattle.text.proofs.matched.Statement.{statement}
 use Rattle.text.proofs.matched.Tie as tie
 mod PlaceNames
@@ -12,7 +12,7 @@ same-requires c κs = search needs
 
 returns : tie.Need-returns
 returns c =
-    let a = start·returns c .args in matched-whole (now (a .t)) (a .start) (now (a .key)) (same·returns c .same .result) (same·returns c .same .ensures)
+    let a = start·returns c .args in matched-all (now (a .t)) (a .start) (now (a .key)) (same·returns c .same .result) (same·returns c .same .ensures)
     (c .if1 .taken)
 
 agreed-requires : tie.Need-agreed-requires

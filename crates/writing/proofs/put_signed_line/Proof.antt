@@ -20,22 +20,22 @@ put-bytes-requires : tie.Need-put-bytes-requires
 put-bytes-requires c κs =
     omega (arith, line-length (now (start·put-bytes-requires c .args .key)) (start·put-bytes-requires c .args .z), start·put-bytes-requires c .pre)
 
-put-whole-requires : tie.Need-put-whole-requires
-put-whole-requires c κs =
-    subst (λ (x : ℤ). put-bytes·put-whole-requires c .put-bytes .result + length (decimal x) < 2 ^ 64)
-    (sym (toZ-ofZ w64 (start·put-whole-requires c .args .z) (start·put-whole-requires c .fits .z)))
+put-signed-requires : tie.Need-put-signed-requires
+put-signed-requires c κs =
+    subst (λ (x : ℤ). put-bytes·put-signed-requires c .put-bytes .result + length (decimal x) < 2 ^ 64)
+    (sym (toZ-ofZ w64 (start·put-signed-requires c .args .z) (start·put-signed-requires c .fits .z)))
     (omega (
       arith,
-      line-length (now (start·put-whole-requires c .args .key)) (start·put-whole-requires c .args .z),
-      start·put-whole-requires c .pre,
-      put-bytes·put-whole-requires c .put-bytes .ensures .stops,
+      line-length (now (start·put-signed-requires c .args .key)) (start·put-signed-requires c .args .z),
+      start·put-signed-requires c .pre,
+      put-bytes·put-signed-requires c .put-bytes .ensures .stops,
     ))
 
 end-line-requires : tie.Need-end-line-requires
 end-line-requires c κs =
     let w = subst (λ (x : ℤ). Put (put-bytes·end-line-requires c .put-bytes .last .0) (put-bytes·end-line-requires c .put-bytes .result) (decimal x)
-    (put-whole·end-line-requires c .put-whole .last .0) (put-whole·end-line-requires c .put-whole .result))
-    (toZ-ofZ w64 (start·end-line-requires c .args .z) (start·end-line-requires c .fits .z)) (put-whole·end-line-requires c .put-whole .ensures) in
+    (put-signed·end-line-requires c .put-signed .last .0) (put-signed·end-line-requires c .put-signed .result))
+    (toZ-ofZ w64 (start·end-line-requires c .args .z) (start·end-line-requires c .fits .z)) (put-signed·end-line-requires c .put-signed .ensures) in
     omega (
       arith,
       line-length (now (start·end-line-requires c .args .key)) (start·end-line-requires c .args .z),
@@ -50,14 +50,14 @@ same-length c = search needs
 returns : tie.Need-returns
 returns c =
     let w = subst (λ (x : ℤ). Put (put-bytes·returns c .put-bytes .last .0) (put-bytes·returns c .put-bytes .result) (decimal x)
-    (put-whole·returns c .put-whole .last .0) (put-whole·returns c .put-whole .result)) (toZ-ofZ w64 (start·returns c .args .z) (start·returns c .fits .z))
-    (put-whole·returns c .put-whole .ensures) in
-    put-line-parts (now (start·returns c .args .buf)) (put-bytes·returns c .put-bytes .last .0) (put-whole·returns c .put-whole .last .0)
+    (put-signed·returns c .put-signed .last .0) (put-signed·returns c .put-signed .result)) (toZ-ofZ w64 (start·returns c .args .z) (start·returns c .fits .z))
+    (put-signed·returns c .put-signed .ensures) in
+    put-line-parts (now (start·returns c .args .buf)) (put-bytes·returns c .put-bytes .last .0) (put-signed·returns c .put-signed .last .0)
     (end-line·returns c .end-line .last .0) (now (start·returns c .args .key)) (start·returns c .args .at) (put-bytes·returns c .put-bytes .result)
-    (put-whole·returns c .put-whole .result) (end-line·returns c .end-line .result) (start·returns c .args .z) (put-bytes·returns c .put-bytes .ensures) w
+    (put-signed·returns c .put-signed .result) (end-line·returns c .end-line .result) (start·returns c .args .z) (put-bytes·returns c .put-bytes .ensures) w
     (end-line·returns c .end-line .ensures)
 
 pub put-signed-line-spec : {M : Type 1} → statement M
 put-signed-line-spec =
     tie.close
-    (tie.spec put-bytes-requires put-whole-requires end-line-requires same-length returns)
+    (tie.spec put-bytes-requires put-signed-requires end-line-requires same-length returns)

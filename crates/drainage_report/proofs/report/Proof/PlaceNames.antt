@@ -6,13 +6,13 @@ start·slice-aggregate-quantified c =
     c .before .before .before .before .before .before .before .before .before .before .before .before .before .before .before .before .before .before .before
     .before .before .before .before .before .before .before .before .before .before .before .before .before .before
 
-abbrev pub start·slice-aggregate-quantified-2 : tie.After-factor2 → tie.Start
-start·slice-aggregate-quantified-2 c = start·slice-aggregate-quantified (c .before)
-
 abbrev pub start·returns : tie.After-put-refusal → tie.Start
 start·returns c =
     c .before .before .before .before .before .before .before .before .before .before .before .before .before .before .before .before .before .before .before
-    .before .before .before .before .before .before .before .before .before .before .before .before .before .before .before .before
+    .before .before .before .before .before .before .before .before .before .before .before .before .before .before .before
+
+abbrev pub start·slice-aggregate-quantified-2 : tie.After-factor2 → tie.Start
+start·slice-aggregate-quantified-2 c = start·slice-aggregate-quantified (c .before)
 
 abbrev pub start·slice-aggregate-quantified-3 : tie.After-kinds2 → tie.Start
 start·slice-aggregate-quantified-3 c = start·slice-aggregate-quantified-2 (c .before)
@@ -35,11 +35,11 @@ start·returns-2 c = start·quantified-requires (c .before .before .before .befo
 abbrev pub read·slice-aggregate-quantified : tie.After-quantity2 → tie.After-read
 read·slice-aggregate-quantified c = c .before .before .before .before .before .before .before .before .before .before .before .before .before
 
+abbrev pub read·returns : tie.After-put-refusal → tie.After-read
+read·returns c = c .before .before .before .before .before .before .before .before .before .before .before .before .before .before
+
 abbrev pub read·slice-aggregate-quantified-2 : tie.After-factor2 → tie.After-read
 read·slice-aggregate-quantified-2 c = read·slice-aggregate-quantified (c .before)
-
-abbrev pub read·returns : tie.After-put-refusal → tie.After-read
-read·returns c = c .before .before .before .before .before .before .before .before .before .before .before .before .before .before .before
 
 abbrev pub read·slice-aggregate-quantified-3 : tie.After-kinds2 → tie.After-read
 read·slice-aggregate-quantified-3 c = read·slice-aggregate-quantified-2 (c .before)
@@ -85,7 +85,7 @@ status·same-length-10 c =
     .before .before .before .before .before .before .before .before
 
 abbrev pub match·returns : tie.After-put-refusal → tie.At-match-keys2
-match·returns c = c .before .before .before .before .before
+match·returns c = c .before .before .before .before
 
 abbrev pub a·quantified-requires : tie.After-quantified-arg8 → tie.After-a
 a·quantified-requires c = c .before .before .before .before .before .before .before .before .before .before .before .before .before .before .before
@@ -93,14 +93,8 @@ a·quantified-requires c = c .before .before .before .before .before .before .be
 abbrev pub a·returns-2 : tie.After-put-answer → tie.After-a
 a·returns-2 c = a·quantified-requires (c .before .before .before .before .before .before .before .before .before)
 
-abbrev pub number·returns : tie.After-put-refusal → tie.After-number
-number·returns c = c .before .before .before
-
-abbrev pub device·returns : tie.After-put-refusal → tie.After-device
-device·returns c = c .before .before
-
-abbrev pub place·returns : tie.After-put-refusal → tie.After-place
-place·returns c = c .before
+abbrev pub told·returns : tie.After-put-refusal → tie.After-told
+told·returns c = c .before .before
 
 abbrev pub quantified·returns-2 : tie.After-put-answer → tie.After-quantified
 quantified·returns-2 c = c .before .before .before .before .before .before .before .before
@@ -112,13 +106,13 @@ quantified·returns-2 c = c .before .before .before .before .before .before .bef
 --   After-read-arg3/read-arg3 After-read-arg4/read-arg4 After-read-arg5/read-arg5 ?read-requires After-read/read After-flow/flow
 --   After-slice-known8/slice-known8 After-content/content After-slice-known9/slice-known9 After-temp/temp After-press/press After-slice-known10/slice-known10
 --   After-status/status After-slice-known11/slice-known11 At-match-keys1/match ?enum-known-a After-a/a After-known-told/known-told At-match-keys2/match
---   After-put-refusal-arg/put-refusal-arg ?number-requires After-number/number ?device-requires After-device/device ?place-requires After-place/place
---   ?put-refusal-requires After-put-refusal/put-refusal ?same-length ?same-length-2 ?same-length-3 ?same-length-4 ?same-length-5 ?returns
---   After-quantity2/quantity2 ?slice-aggregate-quantified After-factor2/factor2 ?slice-aggregate-quantified-2 After-kinds2/kinds2 ?slice-aggregate-quantified-3
---   After-counts2/counts2 ?slice-aggregate-quantified-4 After-positions2/positions2 ?slice-aggregate-quantified-5 After-drifts2/drifts2
---   ?slice-aggregate-quantified-6 After-quantified-arg/quantified-arg After-quantified-arg2/quantified-arg2 After-quantified-arg3/quantified-arg3
---   After-quantified-arg4/quantified-arg4 After-quantified-arg5/quantified-arg5 After-quantified-arg6/quantified-arg6 After-quantified-arg7/quantified-arg7
---   After-quantified-arg8/quantified-arg8 ?quantified-requires After-quantified/quantified After-outcome/outcome After-slice-known12/slice-known12
---   After-flow-used/flow-used After-slice-known13/slice-known13 After-content-used/content-used After-slice-known14/slice-known14
---   After-put-answer-arg/put-answer-arg ?put-answer-requires After-put-answer/put-answer ?same-length-6 ?same-length-7 ?same-length-8 ?same-length-9
---   ?same-length-10 ?same-length-11 ?same-length-12 ?same-length-13 ?returns-2
+--   ?enum-told After-enum-told/enum-told ?told-requires After-told/told After-put-refusal-arg/put-refusal-arg ?put-refusal-requires
+--   After-put-refusal/put-refusal ?same-length ?same-length-2 ?same-length-3 ?same-length-4 ?same-length-5 ?returns After-quantity2/quantity2
+--   ?slice-aggregate-quantified After-factor2/factor2 ?slice-aggregate-quantified-2 After-kinds2/kinds2 ?slice-aggregate-quantified-3 After-counts2/counts2
+--   ?slice-aggregate-quantified-4 After-positions2/positions2 ?slice-aggregate-quantified-5 After-drifts2/drifts2 ?slice-aggregate-quantified-6
+--   After-quantified-arg/quantified-arg After-quantified-arg2/quantified-arg2 After-quantified-arg3/quantified-arg3 After-quantified-arg4/quantified-arg4
+--   After-quantified-arg5/quantified-arg5 After-quantified-arg6/quantified-arg6 After-quantified-arg7/quantified-arg7 After-quantified-arg8/quantified-arg8
+--   ?quantified-requires After-quantified/quantified After-outcome/outcome After-slice-known12/slice-known12 After-flow-used/flow-used
+--   After-slice-known13/slice-known13 After-content-used/content-used After-slice-known14/slice-known14 After-put-answer-arg/put-answer-arg
+--   ?put-answer-requires After-put-answer/put-answer ?same-length-6 ?same-length-7 ?same-length-8 ?same-length-9 ?same-length-10 ?same-length-11
+--   ?same-length-12 ?same-length-13 ?returns-2

@@ -4,18 +4,18 @@ use Rattle.text.proofs.read_signed_line.Tie as tie
 abbrev pub start·returns : tie.Then1 → tie.Start
 start·returns c = c .before .before .before .before
 
-abbrev pub start·returns-2 : tie.After-read-whole → tie.Start
+abbrev pub start·returns-2 : tie.After-read-signed → tie.Start
 start·returns-2 c = c .before .before .before .before .before
 
 abbrev pub matched·returns : tie.Then1 → tie.After-matched
 matched·returns c = c .before
 
-abbrev pub matched·returns-2 : tie.After-read-whole → tie.After-matched
+abbrev pub matched·returns-2 : tie.After-read-signed → tie.After-matched
 matched·returns-2 c = c .before .before
 
-abbrev pub if1·returns-2 : tie.After-read-whole → tie.Else1
+abbrev pub if1·returns-2 : tie.After-read-signed → tie.Else1
 if1·returns-2 c = c .before
 
 -- What the code binds and asks, in order, as it was when this was generated:
 --   After-shared-slice-known/shared-slice-known After-shared-slice-known2/shared-slice-known2 ?matched-requires After-matched/matched Then1/if1 ?add-t9
---   ?returns Else1/if1 ?add-read-whole ?read-whole-requires After-read-whole/read-whole ?returns-2
+--   ?returns Else1/if1 ?add-read-signed ?read-signed-requires After-read-signed/read-signed ?returns-2

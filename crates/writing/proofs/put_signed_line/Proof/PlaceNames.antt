@@ -4,35 +4,35 @@ use Rattle.writing.proofs.put_signed_line.Tie as tie
 abbrev pub start·put-bytes-requires : tie.After-put-bytes-arg → tie.Start
 start·put-bytes-requires c = c .before .before .before
 
-abbrev pub start·put-whole-requires : tie.After-put-whole-arg → tie.Start
-start·put-whole-requires c = start·put-bytes-requires (c .before .before .before .before)
+abbrev pub start·put-signed-requires : tie.After-put-signed-arg → tie.Start
+start·put-signed-requires c = start·put-bytes-requires (c .before .before .before .before)
 
 abbrev pub start·end-line-requires : tie.After-end-line-arg → tie.Start
-start·end-line-requires c = start·put-whole-requires (c .before .before .before .before)
+start·end-line-requires c = start·put-signed-requires (c .before .before .before .before)
 
 abbrev pub start·returns : tie.After-slice-known4 → tie.Start
 start·returns c = start·end-line-requires (c .before .before .before)
 
-abbrev pub put-bytes·put-whole-requires : tie.After-put-whole-arg → tie.After-put-bytes
-put-bytes·put-whole-requires c = c .before .before .before
+abbrev pub put-bytes·put-signed-requires : tie.After-put-signed-arg → tie.After-put-bytes
+put-bytes·put-signed-requires c = c .before .before .before
 
 abbrev pub put-bytes·end-line-requires : tie.After-end-line-arg → tie.After-put-bytes
-put-bytes·end-line-requires c = put-bytes·put-whole-requires (c .before .before .before .before)
+put-bytes·end-line-requires c = put-bytes·put-signed-requires (c .before .before .before .before)
 
 abbrev pub put-bytes·returns : tie.After-slice-known4 → tie.After-put-bytes
 put-bytes·returns c = put-bytes·end-line-requires (c .before .before .before)
 
-abbrev pub put-whole·end-line-requires : tie.After-end-line-arg → tie.After-put-whole
-put-whole·end-line-requires c = c .before .before .before
+abbrev pub put-signed·end-line-requires : tie.After-end-line-arg → tie.After-put-signed
+put-signed·end-line-requires c = c .before .before .before
 
-abbrev pub put-whole·returns : tie.After-slice-known4 → tie.After-put-whole
-put-whole·returns c = put-whole·end-line-requires (c .before .before .before)
+abbrev pub put-signed·returns : tie.After-slice-known4 → tie.After-put-signed
+put-signed·returns c = put-signed·end-line-requires (c .before .before .before)
 
 abbrev pub end-line·returns : tie.After-slice-known4 → tie.After-end-line
 end-line·returns c = c .before .before
 
 -- What the code binds and asks, in order, as it was when this was generated:
 --   After-slice-known/slice-known After-shared-slice-known/shared-slice-known After-put-bytes-arg/put-bytes-arg ?put-bytes-requires After-put-bytes/put-bytes
---   After-buf/buf After-slice-known2/slice-known2 After-put-whole-arg/put-whole-arg ?put-whole-requires After-put-whole/put-whole After-buf2/buf2
+--   After-buf/buf After-slice-known2/slice-known2 After-put-signed-arg/put-signed-arg ?put-signed-requires After-put-signed/put-signed After-buf2/buf2
 --   After-slice-known3/slice-known3 After-end-line-arg/end-line-arg ?end-line-requires After-end-line/end-line After-buf3/buf3 After-slice-known4/slice-known4
 --   ?same-length ?returns

@@ -1,4 +1,4 @@
--- `text::read_whole` meets its contract, by the first byte. Assumes nothing.
+-- `text::read_signed` meets its contract, by the first byte. Assumes nothing.
 use Prim.Native.Nat.{_+_, _-_, _^_, _<_}
 use mathlib.Core.Path.{_∙_, sym, subst, ap}
 use native.Mathlib.Omega.{arith}
@@ -12,8 +12,8 @@ use Rattle.text.specs.Decimal.{number, plain, signed}
 use Rattle.text.proofs.Numbers.{broken-first, plus-read, plus-broken, minus-read, minus-broken}
 use Rattle.text.proofs.Lines.{natural-read, natural-broken}
 use borrow.Author.Needs.{needs}
-use Rattle.text.proofs.read_whole.Statement.{statement}
-use Rattle.text.proofs.read_whole.Tie as tie
+use Rattle.text.proofs.read_signed.Statement.{statement}
+use Rattle.text.proofs.read_signed.Tie as tie
 mod PlaceNames
 use PlaceNames.*
 
@@ -113,8 +113,8 @@ returns-5 c =
     (natural-broken (number (plain 0 (a .most)) (a .end)) (now (a .t)) (a .start) (read-natural2·returns-5 c .read-natural2 .result)
     (k2·returns-5 c .k2 .given .0 .0) (k2·returns-5 c .k2 .given .1) (read-natural2·returns-5 c .read-natural2 .ensures))
 
-pub read-whole-spec : {M : Type 1} → statement M
-read-whole-spec =
+pub read-signed-spec : {M : Type 1} → statement M
+read-signed-spec =
     tie.close
     (tie.spec
     returns

@@ -1,4 +1,4 @@
--- `writing::put_whole` meets its contract, by the number's sign. Assumes nothing.
+-- `writing::put_signed` meets its contract, by the number's sign. Assumes nothing.
 use Prim.Native.Nat.{_+_, _^_, _<_}
 use mathlib.Core.Path.{_∙_, sym, subst}
 use native.Mathlib.Omega.{arith}
@@ -13,8 +13,8 @@ use denote.Ref.{now}
 use Rattle.text.specs.Decimal.{decimal}
 use Rattle.text.specs.Answer.{Put}
 use Rattle.text.proofs.Signs.{found-negative, found-positive, positive-fits, some-digits, room-minus, room-fits, put-minus}
-use Rattle.writing.proofs.put_whole.Statement.{statement}
-use Rattle.writing.proofs.put_whole.Tie as tie
+use Rattle.writing.proofs.put_signed.Statement.{statement}
+use Rattle.writing.proofs.put_signed.Tie as tie
 mod PlaceNames
 use PlaceNames.*
 
@@ -73,8 +73,8 @@ returns-2 c =
     (found-positive (toZ w64 (ofZ w64 (start·returns-2 c .args .z))) (if1·returns-2 c .if1 .left) ∙
     (toZ-ofZ w64 (start·returns-2 c .args .z) (start·returns-2 c .fits .z))) (put-natural2·returns-2 c .put-natural2 .ensures)
 
-pub put-whole-spec : {M : Type 1} → statement M
-put-whole-spec =
+pub put-signed-spec : {M : Type 1} → statement M
+put-signed-spec =
     tie.close
     (tie.spec
     put-requires

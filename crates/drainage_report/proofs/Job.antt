@@ -3,33 +3,35 @@ use Prim.Native.Nat.{ℕ, _+_, _*_, _≤_, _<_}
 use mathlib.Core.Path.{_≡_, refl, sym, ap, _∙_, subst}
 use mathlib.Core.Bool.{Bool, true, false}
 use mathlib.Core.List.{List, [], _∷_}
-use mathlib.Core.Logic.{⊎-elim}
 use native.Mathlib.Omega.{arith}
 use lib.Dec.{leb}
 use lib.IntN.{ℤ, pos}
 use lib.ListN.{length, take, replicate, length-replicate}
 use denote.Enum.Declared.{tagOf}
-use types.Run.{OneOf}
 use borrow.Author.Tests.{leb-true, leb-false}
-use Rattle.rows.specs.Rows.{pick, both}
-use Rattle.protocol.specs.Ranges.{fromOne, intervalsMost, devicesMost}
+use Rattle.rows.specs.Rows.{pick}
+use Rattle.protocol.specs.Ranges.{intervalsMost, devicesMost, deviceChecks, fuelsMost}
 use Rattle.text.specs.Answer.{Leads}
-use Rattle.columns.specs.Series.{Room, seriesTake, checksTake, fuelTake}
+use Rattle.columns.specs.Series.{Room, seriesOf, seriesTake, checksTake, fuelTake}
 use Rattle.columns.proofs.Laws.{each-as-long}
+use Rattle.refusals.specs.declared.Refusal.{Refusal}
+use Rattle.refusals.specs.declared.Refusal.the-variants as Refusal
+use Rattle.refusals.specs.declared.Told.{Told}
+use Rattle.refusals.specs.Table.{toldOf}
 use Rattle.drainage_judge.specs.Call.{Call}
-use Rattle.drainage_judge.specs.Steps.{judged}
-use Rattle.drainage_judge.proofs.Laws.{within-most}
+use Rattle.drainage_judge.specs.Order.{judged}
+use Rattle.steps.proofs.Clear.{within-most}
 use Rattle.drainage.specs.Promise.{answerBy, Settled}
 use Rattle.drainage.proofs.Settling.{settled-call}
 use Rattle.drainage.specs.declared.Answer.{Answer}
 use Rattle.drainage_record_form.specs.Field as Field
+use Rattle.drainage_record_form.specs.Field.{Field}
 use Rattle.drainage_record_form.specs.Plan.{Line, lineIs}
-use Rattle.drainage_record_form.specs.Rows.{Rows, stored, roomOf, lesser}
+use Rattle.drainage_record_form.specs.Rows.{Rows, withSeries, store, stored, roomOf, lesser}
 use Rattle.drainage_record_form.specs.File.{Record, Fine, file}
 use Rattle.drainage_record_form.proofs.Parts.{withHead}
 use Rattle.drainage_record_form.proofs.Covered.{SameLong, covered, stored-long}
-use Rattle.drainage_record.specs.Read as Read
-use Rattle.drainage_record.specs.Read.{ReadRight, Accepted, Outside, Wrong}
+use Rattle.drainage_record.specs.Read.{toldIn, ReadRight, RecordRead, Outside, NoRoom, Wrong, Refused}
 use Rattle.drainage_record.specs.declared.Header.{Header}
 use Rattle.drainage_record.specs.declared.ReadAnswer.{ReadAnswer}
 use Rattle.drainage_record.specs.declared.ReadAnswer.the-variants as ReadAnswer
@@ -68,12 +70,12 @@ turned n d = omega arith
 -- ---- what a record that was read is ready for
 
 few-in : (n d m f : ℕ) (rest : List Line)
-    → Record (lineIs Field.intervals (pos n) ∷ lineIs Field.devices (pos d) ∷ lineIs Field.mine (pos m) ∷ lineIs Field.fuels (pos f) ∷ rest) → f ≤ 64
+    → Record (lineIs Field.intervals (pos n) ∷ lineIs Field.devices (pos d) ∷ lineIs Field.mine (pos m) ∷ lineIs Field.fuels (pos f) ∷ rest) → f ≤ fuelsMost
 unfolding file
 few-in n d m f rest r = r .2 .2 .2 .1 .1
 
-module _ (t : List ℕ) (l : Lent) (after : Rows) (h : Header) (x : Accepted t (readerRows l) after h) where
-  fuels-few : h .fuels ≤ 64
+module _ (t : List ℕ) (l : Lent) (after : Rows) (h : Header) (x : RecordRead t (readerRows l) after h) where
+  fuels-few : h .fuels ≤ fuelsMost
   fuels-few = few-in (h .intervals) (h .devices) (h .mine) (h .fuels) (x .rest) (subst Record (x .head) (x .follows))
 
   room-of : Room (readerRows l .series) (h .intervals * h .devices)
@@ -82,8 +84,8 @@ module _ (t : List ℕ) (l : Lent) (after : Rows) (h : Header) (x : Accepted t (
   pub ready : Roomy h after
   unfolding readerRows
   ready =
-      let n : h .intervals ≤ 35136 = within-most (h .intervals) intervalsMost (x .limits .intervals) in
-      let d : h .devices ≤ 16 = within-most (h .devices) devicesMost (x .limits .devices) in
+      let n : h .intervals ≤ intervalsMost = within-most (h .intervals) intervalsMost (x .limits .intervals) in
+      let d : h .devices ≤ devicesMost = within-most (h .devices) devicesMost (x .limits .devices) in
       let s : SameLong (stored (x .lines) (readerRows l)) (readerRows l) = stored-long (x .lines) (readerRows l) in
       let k : SameLong after (readerRows l) = subst (λ (r : Rows). SameLong r (readerRows l)) (sym (x .rows)) s in
       let m : h .devices * h .intervals ≡ h .intervals * h .devices = turned (h .intervals) (h .devices) in
@@ -92,15 +94,15 @@ module _ (t : List ℕ) (l : Lent) (after : Rows) (h : Header) (x : Accepted t (
         few-devices = d;
         fuel =
             record {
-              quantity = omega (arith, k .fuel .quantity, fuels-few, length-replicate {A = ℕ} 64 0);
-              factor = omega (arith, k .fuel .factor, fuels-few, length-replicate {A = ℕ} 64 0);
+              quantity = omega (arith, k .fuel .quantity, fuels-few, length-replicate {A = ℕ} fuelsMost 0);
+              factor = omega (arith, k .fuel .factor, fuels-few, length-replicate {A = ℕ} fuelsMost 0);
             };
-        kinds-room = omega (arith, k .kinds, d, length-replicate {A = ℕ} 16 0);
+        kinds-room = omega (arith, k .kinds, d, length-replicate {A = ℕ} devicesMost 0);
         checks =
             record {
-              counts = omega (arith, k .checks .counts, d, length-replicate {A = ℕ} 32 0);
-              positions = omega (arith, k .checks .positions, d, length-replicate {A = ℕ} 1024 0);
-              drifts = omega (arith, k .checks .drifts, d, length-replicate 1024 (pos 0));
+              counts = omega (arith, k .checks .counts, d, length-replicate {A = ℕ} (2 * devicesMost) 0);
+              positions = omega (arith, k .checks .positions, d, length-replicate {A = ℕ} (deviceChecks * devicesMost) 0);
+              drifts = omega (arith, k .checks .drifts, d, length-replicate (deviceChecks * devicesMost) (pos 0));
             };
         series = subst (Room (after .series)) (sym m) (each-as-long (λ e. h .intervals * h .devices ≤ e) (k .series) room-of);
       }
@@ -111,10 +113,43 @@ ready-for t l after h a e r = ready t l after h (subst (ReadRight t (readerRows 
 -- Reading leaves each row as long as it was.
 pub read-long : (t : List ℕ) (before after : Rows) (a : ReadAnswer) → ReadRight t before after a → SameLong after before
 read-long t before after (ReadAnswer.Record h) x = subst (λ (r : Rows). SameLong r before) (sym (x .rows)) (stored-long (x .lines) before)
-read-long t before after ReadAnswer.Intervals x = subst (λ (r : Rows). SameLong r before) (sym (x .same)) (stored-long [] before)
-read-long t before after ReadAnswer.Devices x = subst (λ (r : Rows). SameLong r before) (sym (x .same)) (stored-long [] before)
-read-long t before after ReadAnswer.Room x = subst (λ (r : Rows). SameLong r before) (sym (x .same)) (stored-long [] before)
-read-long t before after (ReadAnswer.Line k) x = subst (λ (r : Rows). SameLong r before) (sym (x .rows)) (stored-long (x .lines) before)
+read-long t before after (ReadAnswer.Refused r) x = refused-long r x
+  where
+    refused-long : (r : Refusal) → Refused t before after r → SameLong after before
+    refused-long Refusal.Intervals (Refused.intervals y) = subst (λ (w : Rows). SameLong w before) (sym (y .same)) (stored-long [] before)
+    refused-long Refusal.Devices (Refused.devices y) = subst (λ (w : Rows). SameLong w before) (sym (y .same)) (stored-long [] before)
+    refused-long Refusal.Room (Refused.room y) = subst (λ (w : Rows). SameLong w before) (sym (y .same)) (stored-long [] before)
+    refused-long (Refusal.Line k) (Refused.line y) = subst (λ (w : Rows). SameLong w before) (sym (y .rows)) (stored-long (y .lines) before)
+
+-- ---- the rows but for the series
+
+-- What a line leaves in the other rows does not depend on the series.
+abbrev rest : Rows → Rows
+rest r = withSeries (seriesOf [] [] [] [] []) r
+
+rest-store : (f : Field) (z : ℤ) (r : Rows) → rest (store f z r) ≡ rest (store f z (rest r))
+rest-store Field.intervals z r = refl
+rest-store Field.devices z r = refl
+rest-store Field.mine z r = refl
+rest-store Field.fuels z r = refl
+rest-store (Field.quantity k) z r = refl
+rest-store (Field.factor k) z r = refl
+rest-store (Field.kind d) z r = refl
+rest-store (Field.flow-checks d) z r = refl
+rest-store (Field.content-checks d) z r = refl
+rest-store (Field.at p) z r = refl
+rest-store (Field.drift p) z r = refl
+rest-store (Field.flow e) z r = refl
+rest-store (Field.content e) z r = refl
+rest-store (Field.temp e) z r = refl
+rest-store (Field.press e) z r = refl
+rest-store (Field.status e) z r = refl
+
+rest-stored : (ls : List Line) (r s : Rows) → rest r ≡ rest s → rest (stored ls r) ≡ rest (stored ls s)
+rest-stored [] r s e = e
+rest-stored (l ∷ ls) r s e =
+    rest-stored ls (store (l .field) (l .value) r) (store (l .field) (l .value) s)
+    (rest-store (l .field) (l .value) r ∙ ap (λ (w : Rows). rest (store (l .field) (l .value) w)) e ∙ sym (rest-store (l .field) (l .value) s))
 
 -- ---- what stands in the lent rows does not matter
 
@@ -126,8 +161,8 @@ module _ (t : List ℕ) (k l : Lent) (e : AsLong k l) where
   outside-other : {after : Rows} {offends : ℕ → ℕ → Type 0} → Outside t (readerRows l) after offends → Outside t (readerRows k) (readerRows k) offends
   outside-other x = record { intervals = x .intervals; devices = x .devices; headed = x .headed; offence = x .offence; same = refl }
 
-  accepted-other : {after : Rows} {h : Header} → (x : Accepted t (readerRows l) after h) → Accepted t (readerRows k) (stored (x .lines) (readerRows k)) h
-  accepted-other {h = h} x =
+  record-other : {after : Rows} {h : Header} → (x : RecordRead t (readerRows l) after h) → RecordRead t (readerRows k) (stored (x .lines) (readerRows k)) h
+  record-other {h = h} x =
       record {
         lines = x .lines;
         follows = x .follows;
@@ -154,36 +189,37 @@ module _ (t : List ℕ) (k l : Lent) (e : AsLong k l) where
       }
 
   -- The record covers each entry that quantification is lent.
-  module _ (after : Rows) (h : Header) (x : Accepted t (readerRows l) after h) where
+  module _ (after : Rows) (h : Header) (x : RecordRead t (readerRows l) after h) where
     alike : seriesTake (h .devices * h .intervals) (stored (x .lines) (readerRows k) .series) ≡ seriesTake (h .devices * h .intervals) (stored (x .lines) (readerRows l) .series)
     alike =
         subst (λ (m : ℕ). seriesTake m (stored (x .lines) (readerRows k) .series) ≡ seriesTake m (stored (x .lines) (readerRows l) .series))
         (sym (turned (h .intervals) (h .devices)))
         (subst (λ (ls : List Line). seriesTake (h .intervals * h .devices) (stored ls (readerRows k) .series) ≡ seriesTake (h .intervals * h .devices) (stored ls (readerRows l) .series)) (sym (x .head))
         (covered (h .intervals) (h .devices) (lineIs Field.mine (pos (h .mine)) ∷ lineIs Field.fuels (pos (h .fuels)) ∷ x .rest) (subst Record (x .head) (x .follows)) (readerRows k) (readerRows l)
-        (room-of t k (stored (x .lines) (readerRows k)) h (accepted-other x)) (room-of t l after h x)))
+        (room-of t k (stored (x .lines) (readerRows k)) h (record-other x)) (room-of t l after h x)))
 
     call-both : callOf h (stored (x .lines) (readerRows k)) (k .results) ≡ callOf h (stored (x .lines) (readerRows l)) (l .results)
     unfolding callOf readerRows
     call-both =
+        let others : rest (stored (x .lines) (readerRows k)) ≡ rest (stored (x .lines) (readerRows l)) = rest-stored (x .lines) (readerRows k) (readerRows l) refl in
         λ i. record {
           intervals = h .intervals;
           devices = h .devices;
           mine = h .mine;
-          kinds = take (h .devices) (stored (x .lines) (readerRows l) .kinds);
-          checks = checksTake (h .devices) (stored (x .lines) (readerRows l) .checks);
+          kinds = take (h .devices) (others i .kinds);
+          checks = checksTake (h .devices) (others i .checks);
           series = alike i;
-          fuel = fuelTake (h .fuels) (stored (x .lines) (readerRows l) .fuel);
+          fuel = fuelTake (h .fuels) (others i .fuel);
           outcome-length = lesser (e .outcome i) (h .devices * h .intervals);
           flow-row-length = lesser (e .flow-used i) (h .devices * h .intervals);
           content-row-length = lesser (e .content-used i) (h .devices * h .intervals);
         }
 
-  call-other : (after : Rows) (h : Header) (x : Accepted t (readerRows l) after h)
+  call-other : (after : Rows) (h : Header) (x : RecordRead t (readerRows l) after h)
       → callOf h (stored (x .lines) (readerRows k)) (k .results) ≡ callOf h after (l .results)
   call-other after h x = call-both after h x ∙ ap (λ (r : Rows). callOf h r (l .results)) (sym (x .rows))
 
-  answer-other : (after : Rows) (h : Header) (x : Accepted t (readerRows l) after h)
+  answer-other : (after : Rows) (h : Header) (x : RecordRead t (readerRows l) after h)
       → answerTo h after (l .results) ≡ answerTo h (stored (x .lines) (readerRows k)) (k .results)
   unfolding answerTo
   answer-other after h x = ap (λ (c : Call). answerBy (judged c) c) (sym (call-other after h x))
@@ -193,17 +229,13 @@ module _ (t : List ℕ) (k l : Lent) (e : AsLong k l) where
       record {
         answer = ReadAnswer.Record h;
         rows = stored (x .lines) (readerRows k);
-        read = accepted-other x;
+        read = record-other x;
         output = ap printed (answer-other after h x);
       }
-  whatever-else after ReadAnswer.Intervals x = record { answer = ReadAnswer.Intervals; rows = readerRows k; read = outside-other x; output = refl }
-  whatever-else after ReadAnswer.Devices x = record { answer = ReadAnswer.Devices; rows = readerRows k; read = outside-other x; output = refl }
-  whatever-else after ReadAnswer.Room x =
-      record { answer = ReadAnswer.Room; rows = readerRows k; read = outside-room x; output = refl }
+  whatever-else after (ReadAnswer.Refused r) x = refused-other r x
     where
-      outside-room : Outside t (readerRows l) after (λ n d. (fromOne intervalsMost n ≡ true) × (fromOne devicesMost d ≡ true) × (roomOf (readerRows l) < n * d))
-          → Outside t (readerRows k) (readerRows k) (λ n d. (fromOne intervalsMost n ≡ true) × (fromOne devicesMost d ≡ true) × (roomOf (readerRows k) < n * d))
-      outside-room y =
+      no-room : Outside t (readerRows l) after (NoRoom (roomOf (readerRows l))) → Outside t (readerRows k) (readerRows k) (NoRoom (roomOf (readerRows k)))
+      no-room y =
           record {
             intervals = y .intervals;
             devices = y .devices;
@@ -211,10 +243,17 @@ module _ (t : List ℕ) (k l : Lent) (e : AsLong k l) where
             offence = (y .offence .0, y .offence .1, subst (λ (m : ℕ). m < y .intervals * y .devices) (sym (same-room k l e)) (y .offence .2));
             same = refl;
           }
-  whatever-else after (ReadAnswer.Line n) x =
-      record { answer = ReadAnswer.Line n; rows = stored (x .lines) (readerRows k); read = wrong-other x; output = refl }
 
--- ---- the whole
+      told-other : (r : Refusal) (rows : Rows) → Refused t (readerRows k) rows r → Whatever t k (refusalText (toldOf r))
+      told-other r rows y = record { answer = ReadAnswer.Refused r; rows = rows; read = y; output = refl }
+
+      refused-other : (r : Refusal) → Refused t (readerRows l) after r → Whatever t k (refusalText (toldOf r))
+      refused-other Refusal.Intervals (Refused.intervals y) = told-other Refusal.Intervals (readerRows k) (Refused.intervals (outside-other y))
+      refused-other Refusal.Devices (Refused.devices y) = told-other Refusal.Devices (readerRows k) (Refused.devices (outside-other y))
+      refused-other Refusal.Room (Refused.room y) = told-other Refusal.Room (readerRows k) (Refused.room (no-room y))
+      refused-other (Refusal.Line n) (Refused.line y) = told-other (Refusal.Line n) (stored (y .lines) (readerRows k)) (Refused.line (wrong-other y))
+
+-- ---- the job
 
 settled-record : (h : Header) (r : Rows) (s : ResultRows)
     → Settled (callOf h r s) (partsOf (h .devices * h .intervals) s) (partsAfter h r s) (answerTo h r s)
@@ -238,25 +277,12 @@ module _ (t : List ℕ) (l : Lent) (rows : Rows) (old new : List ℕ) (n : ℕ) 
         whatever = λ k e. whatever-else t k l e rows a r;
       }
 
-  refusal : (a : ReadAnswer) (number device place : ℕ) → number ≡ Read.numberOf a → device ≡ Read.deviceOf a → place ≡ Read.placeOf a
-      → Leads (refusalText number device place) old new n → Leads (refusalText (Read.numberOf a) 0 (Read.placeOf a)) old new n
-  refusal a number device place x y z l =
-      subst (λ (i : ℕ). Leads (refusalText (Read.numberOf a) 0 i) old new n) z
-      (subst (λ (i : ℕ). Leads (refusalText (Read.numberOf a) i place) old new n) y
-      (subst (λ (i : ℕ). Leads (refusalText i device place) old new n) x l))
-
   -- The reader refused.
-  pub reported-refusal : (a : ReadAnswer) (number device place : ℕ) → OneOf (1 ∷ 2 ∷ 3 ∷ 4 ∷ []) (tagOf ReadAnswerType.the-type a)
-      → ReadRight t (readerRows l) rows a → number ≡ Read.numberOf a → device ≡ Read.deviceOf a → place ≡ Read.placeOf a
-      → Leads (refusalText number device place) old new n → Reported t l (lentAs rows (l .results)) old new n
-  reported-refusal (ReadAnswer.Record h) number device place tag r x y z w = absurd (never tag)
-    where
-      never : OneOf (1 ∷ 2 ∷ 3 ∷ 4 ∷ []) 0 → ⊥
-      never o = ⊎-elim (λ x. omega (arith, x)) (⊎-elim (λ x. omega (arith, x)) (⊎-elim (λ x. omega (arith, x)) (λ x. omega (arith, x)))) o
-  reported-refusal ReadAnswer.Intervals number device place tag r x y z w = reported ReadAnswer.Intervals r (refusal ReadAnswer.Intervals number device place x y z w)
-  reported-refusal ReadAnswer.Devices number device place tag r x y z w = reported ReadAnswer.Devices r (refusal ReadAnswer.Devices number device place x y z w)
-  reported-refusal ReadAnswer.Room number device place tag r x y z w = reported ReadAnswer.Room r (refusal ReadAnswer.Room number device place x y z w)
-  reported-refusal (ReadAnswer.Line k) number device place tag r x y z w = reported (ReadAnswer.Line k) r (refusal (ReadAnswer.Line k) number device place x y z w)
+  pub reported-refusal : (a : ReadAnswer) (x : Told) → tagOf ReadAnswerType.the-type a ≡ 1 → ReadRight t (readerRows l) rows a → x ≡ toldIn a
+      → Leads (refusalText x) old new n → Reported t l (lentAs rows (l .results)) old new n
+  reported-refusal (ReadAnswer.Record h) x tag r e w = absurd (omega (arith, tag))
+  reported-refusal (ReadAnswer.Refused y) x tag r e w =
+      reported (ReadAnswer.Refused y) r (subst (λ (z : Told). Leads (refusalText z) old new n) e w)
 
   -- A record was read and quantified.
   pub reported-record : (a : ReadAnswer) (h : Header) (b : Answer) (results : ResultRows) → a ≡ ReadAnswer.Record h → ReadRight t (readerRows l) rows a
