@@ -13,7 +13,8 @@ use Rattle.columns.specs.Series.{ChecksLong, Long, InRange, Burnable}
 use Rattle.steps.specs.Step.{verdictOf, Clear, AllClear}
 use Rattle.steps.specs.Steps.{intervalsStep, devicesStep, lengthsStep, mineStep, kindsStep, misplacedStep, checksStep, fuelsStep}
 use Rattle.steps.proofs.Verdicts.{clean-clear, Among, clear-of}
-use Rattle.steps.proofs.Clear.{within-least, within-most, intervals-clear, devices-clear, lengths-clear, mine-clear, kinds-clear, placed-clear, count-clear, position-clear, drift-clear, rise-clear, fuels-clear}
+use Rattle.steps.proofs.Clear.{within-least, within-most, intervals-clear, devices-clear, lengths-clear, mine-clear, kinds-clear, placed-clear, fuels-clear}
+use Rattle.steps.proofs.Clear.{count-clear, position-clear, drift-clear, rise-clear}
 use Rattle.drainage_readings.specs.Readings.{readingsStep}
 use Rattle.drainage_readings.proofs.Laws.{readings-clear}
 use Rattle.drainage_judge.specs.Call.{Call}
