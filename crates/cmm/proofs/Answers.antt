@@ -1,11 +1,9 @@
 -- What the host's arrays hold after an answer, by its case. Assumes nothing.
 use Prim.Native.Nat.{ℕ}
 use mathlib.Core.Path.{_≡_, refl, sym, ap, _∙_, subst}
-use mathlib.Core.List.{List, [], _∷_}
-use mathlib.Core.Logic.{inl, inr}
+use mathlib.Core.List.{List}
 use native.Mathlib.Omega.{arith}
 use denote.Enum.Declared.{tagOf}
-use types.Run.{OneOf}
 use Rattle.figures.specs.declared.Figures.{Figures}
 use Rattle.drainage.specs.declared.Answer.{Answer}
 use Rattle.drainage.specs.declared.Answer.the-variants as Answer
@@ -40,7 +38,7 @@ sheet-held a f old new is w = both-given f new w ∙ sym (ap (λ (x : ReadAnswer
 
 pub no-sheet-held : (a : ReadAnswer) (old : Arrays) → tagOf ReadAnswerType.the-type a ≡ 1 → old ≡ arraysOf a old
 no-sheet-held (ReadAnswer.Sheet f) old tag = absurd (omega (arith, tag))
-no-sheet-held (ReadAnswer.NoSheet k) old tag = refl
+no-sheet-held (ReadAnswer.Refused r) old tag = refl
 
 pub same-written : (f g : Figures) (old new : List ℕ) (a : WriteAnswer) → f ≡ g → WriteRight f old new a → WriteRight g old new a
 same-written f g old new a e w = subst (λ (h : Figures). WriteRight h old new a) e w
@@ -48,15 +46,6 @@ same-written f g old new a e w = subst (λ (h : Figures). WriteRight h old new a
 pub record-head : (a : RecordType.ReadAnswer) (h : Header) (old : List ℕ) → a ≡ RecordAnswer.Record h → headed h ≡ headAfter a old
 record-head a h old is = sym (ap (λ (x : RecordType.ReadAnswer). headAfter x old) is)
 
-never-zero : OneOf (1 ∷ 2 ∷ 3 ∷ 4 ∷ []) 0 → ⊥
-never-zero (inl h) = omega (arith, h)
-never-zero (inr (inl h)) = omega (arith, h)
-never-zero (inr (inr (inl h))) = omega (arith, h)
-never-zero (inr (inr (inr h))) = omega (arith, h)
-
-pub no-record-head : (a : RecordType.ReadAnswer) (old : List ℕ) → OneOf (1 ∷ 2 ∷ 3 ∷ 4 ∷ []) (tagOf RecordAnswerType.the-type a) → old ≡ headAfter a old
-no-record-head (RecordAnswer.Record h) old tag = absurd (never-zero tag)
-no-record-head RecordAnswer.Intervals old tag = refl
-no-record-head RecordAnswer.Devices old tag = refl
-no-record-head RecordAnswer.Room old tag = refl
-no-record-head (RecordAnswer.Line l) old tag = refl
+pub no-record-head : (a : RecordType.ReadAnswer) (old : List ℕ) → tagOf RecordAnswerType.the-type a ≡ 1 → old ≡ headAfter a old
+no-record-head (RecordAnswer.Record h) old tag = absurd (omega (arith, tag))
+no-record-head (RecordAnswer.Refused r) old tag = refl

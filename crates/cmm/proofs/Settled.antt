@@ -6,7 +6,7 @@ use native.Mathlib.Omega.{arith}
 use Rattle.drainage_judge.specs.Call.{Call}
 use Rattle.drainage_devices.specs.Devices.{Results}
 use Rattle.figures.specs.declared.Figures.{Figures}
-use Rattle.drainage.specs.Promise.{numberIn, deviceIn, placeIn}
+use Rattle.drainage.specs.Promise.{toldIn}
 use Rattle.drainage.specs.declared.Answer.{Answer}
 use Rattle.drainage.proofs.Settling.{settled-unique}
 use Rattle.sheet_text.specs.Write as Write
@@ -37,8 +37,8 @@ quantified-settled c before one two old held other at at′ m n x y =
     record {
       results = e .1;
       figures = told-once (λ (a : Answer). arraysAfter a old) (e .0) (x .figures) (y .figures);
-      place = told-once (λ (a : Answer). deviceIn a ∷ placeIn a ∷ []) (e .0) (x .place) (y .place);
-      number = told-once numberIn (e .0) (x .told) (y .told);
+      place = told-once (λ (a : Answer). toldIn a .device ∷ toldIn a .place ∷ []) (e .0) (x .place) (y .place);
+      number = told-once (λ (a : Answer). toldIn a .number) (e .0) (x .told) (y .told);
     }
 
 pub written-settled : (f : Figures) (old new other size size′ : List ℕ) (m n : ℕ)
@@ -46,8 +46,8 @@ pub written-settled : (f : Figures) (old new other size size′ : List ℕ) (m n
 written-settled f old new other size size′ m n x y =
     let e = write-settled f old new other (x .answer) (y .answer) (x .right) (y .right) in (
       e .1,
-      told-once (λ (a : WriteAnswer). sizeOf a ∷ []) (e .0) (x .length) (y .length),
-      told-once Write.numberOf (e .0) (x .told) (y .told),
+      told-once (λ (a : WriteAnswer). sizeOf a ∷ []) (e .0) (x .sized) (y .sized),
+      told-once (λ (a : WriteAnswer). Write.toldIn a .number) (e .0) (x .told) (y .told),
     )
 
 pub sheet-read-settled : (t : List ℕ) (old held other : Arrays) (at at′ : List ℕ) (m n : ℕ)
@@ -55,8 +55,8 @@ pub sheet-read-settled : (t : List ℕ) (old held other : Arrays) (at at′ : Li
 sheet-read-settled t old held other at at′ m n x y =
     let e = read-settled t (x .answer) (y .answer) (x .right) (y .right) in (
       told-once (λ (a : ReadAnswer). arraysOf a old) e (x .figures) (y .figures),
-      told-once (λ (a : ReadAnswer). Read.placeOf a ∷ []) e (x .place) (y .place),
-      told-once Read.numberOf e (x .told) (y .told),
+      told-once (λ (a : ReadAnswer). Read.toldIn a .place ∷ []) e (x .place) (y .place),
+      told-once (λ (a : ReadAnswer). Read.toldIn a .number) e (x .told) (y .told),
     )
 
 pub record-read-settled : (t : List ℕ) (before one two : Record.Rows) (old new other line line′ : List ℕ) (m n : ℕ)
@@ -66,8 +66,8 @@ record-read-settled t before one two old new other line line′ m n x y =
     let e = RecordSettled.read-once t before one two (x .answer) (y .answer) (x .right) (y .right) in (
       e .1,
       told-once (λ (a : RecordType.ReadAnswer). headAfter a old) (e .0) (x .head) (y .head),
-      told-once (λ (a : RecordType.ReadAnswer). Reader.placeOf a ∷ []) (e .0) (x .place) (y .place),
-      told-once Reader.numberOf (e .0) (x .told) (y .told),
+      told-once (λ (a : RecordType.ReadAnswer). Reader.toldIn a .place ∷ []) (e .0) (x .place) (y .place),
+      told-once (λ (a : RecordType.ReadAnswer). Reader.toldIn a .number) (e .0) (x .told) (y .told),
     )
 
 -- The year's program (host/year.c) lends rows of 35,136 × 16 entries and reads at most 34,328,709 bytes: by `report-cut` what is

@@ -4,10 +4,11 @@ use Prim.Native.Nat.{ℕ}
 use mathlib.Core.Path.{_≡_}
 use mathlib.Core.List.{List, [], _∷_}
 use lib.IntN.{ℤ}
+use Rattle.refusals.specs.Table.{toldOf}
 use Rattle.figures.specs.declared.Figures.{Figures}
 use Rattle.drainage_judge.specs.Call.{Call}
 use Rattle.drainage_devices.specs.Devices.{Results}
-use Rattle.drainage.specs.Promise.{Settled, numberIn, deviceIn, placeIn}
+use Rattle.drainage.specs.Promise.{Settled, toldIn}
 use Rattle.drainage.specs.declared.Answer.{Answer}
 use Rattle.drainage.specs.declared.Answer.the-variants as Answer
 use Rattle.sheet_text.specs.Write as Write
@@ -40,30 +41,30 @@ arraysAfter (Answer.Refused r) before = before
 pub record Quantified (c : Call) (before after : Results) (old new : Arrays) (at : List ℕ) (number : ℕ) : Type 0 where
   pub answer : Answer
   pub settled : Settled c before after answer
-  pub told : number ≡ numberIn answer
-  pub place : at ≡ deviceIn answer ∷ placeIn answer ∷ []
+  pub told : number ≡ toldIn answer .number
+  pub place : at ≡ toldIn answer .device ∷ toldIn answer .place ∷ []
   pub figures : new ≡ arraysAfter answer old
 
--- the length written, or needed
+-- the length written, or needed, which is the place of that refusal (rule 4.11)
 abbrev pub sizeOf : WriteAnswer → ℕ
 sizeOf (WriteAnswer.Written n) = n
-sizeOf (WriteAnswer.TooShort n) = n
+sizeOf (WriteAnswer.Refused r) = toldOf r .place
 
 pub record SheetWritten (f : Figures) (old new : List ℕ) (size : List ℕ) (number : ℕ) : Type 0 where
   pub answer : WriteAnswer
   pub right : WriteRight f old new answer
-  pub told : number ≡ Write.numberOf answer
-  pub length : size ≡ sizeOf answer ∷ []
+  pub told : number ≡ Write.toldIn answer .number
+  pub sized : size ≡ sizeOf answer ∷ []
 
 abbrev pub arraysOf : ReadAnswer → Arrays → Arrays
 arraysOf (ReadAnswer.Sheet f) before = given f
-arraysOf (ReadAnswer.NoSheet k) before = before
+arraysOf (ReadAnswer.Refused r) before = before
 
 pub record SheetRead (t : List ℕ) (old new : Arrays) (offset : List ℕ) (number : ℕ) : Type 0 where
   pub answer : ReadAnswer
   pub right : ReadRight t answer
-  pub told : number ≡ Read.numberOf answer
-  pub place : offset ≡ Read.placeOf answer ∷ []
+  pub told : number ≡ Read.toldIn answer .number
+  pub place : offset ≡ Read.toldIn answer .place ∷ []
   pub figures : new ≡ arraysOf answer old
 
 -- the numbers at a record's head
@@ -72,14 +73,11 @@ headed h = h .intervals ∷ h .devices ∷ h .mine ∷ h .fuels ∷ []
 
 abbrev pub headAfter : RecordType.ReadAnswer → List ℕ → List ℕ
 headAfter (RecordAnswer.Record h) before = headed h
-headAfter RecordAnswer.Intervals before = before
-headAfter RecordAnswer.Devices before = before
-headAfter RecordAnswer.Room before = before
-headAfter (RecordAnswer.Line l) before = before
+headAfter (RecordAnswer.Refused r) before = before
 
 pub record RecordRead (t : List ℕ) (before after : Record.Rows) (old new line : List ℕ) (number : ℕ) : Type 0 where
   pub answer : RecordType.ReadAnswer
   pub right : Reader.ReadRight t before after answer
-  pub told : number ≡ Reader.numberOf answer
-  pub place : line ≡ Reader.placeOf answer ∷ []
+  pub told : number ≡ Reader.toldIn answer .number
+  pub place : line ≡ Reader.toldIn answer .place ∷ []
   pub head : new ≡ headAfter answer old

@@ -1,8 +1,8 @@
--- `library::cmm_quantify` meets its contract: the call's own promise, and what the answer's case leaves in the arrays. Assumes nothing.
+-- `cmm::cmm_quantify` meets its contract: the call's own promise, and what the answer's case leaves in the arrays. Assumes nothing.
 use mathlib.Core.List.{[], _∷_}
-use mathlib.Core.Path.{sym, ap}
+use mathlib.Core.Path.{ap}
 use borrow.Author.Needs.{needs}
-use Rattle.drainage.specs.Promise.{numberIn}
+use Rattle.refusals.specs.declared.Told.{Told}
 use Rattle.cmm.proofs.Answers.{accepted-held, refused-held}
 use Rattle.cmm.proofs.cmm_quantify.Statement.{statement}
 use Rattle.cmm.proofs.cmm_quantify.Tie as tie
@@ -12,20 +12,14 @@ use PlaceNames.*
 quantify-requires : tie.Need-quantify-requires
 quantify-requires c κs = search needs
 
-device-requires : tie.Need-device-requires
-device-requires c κs = search needs
-
-place-requires : tie.Need-place-requires
-place-requires c κs = search needs
+told-requires : tie.Need-told-requires
+told-requires c κs = search needs
 
 enum-known-a : tie.Need-enum-known-a
 enum-known-a c = search needs
 
 enum-told : tie.Need-enum-told
 enum-told c = search needs
-
-number-requires : tie.Need-number-requires
-number-requires c κs = search needs
 
 same-length : tie.Need-same-length
 same-length c = outcome·same-length c .outcome .given
@@ -41,8 +35,8 @@ returns c =
     record {
       answer = quantify·returns c .quantify .result;
       settled = quantify·returns c .quantify .ensures;
-      told = c .number .ensures;
-      place = λ i. device·returns c .device .ensures i ∷ place·returns c .place .ensures i ∷ [];
+      told = ap (λ (x : Told). x .number) (told·returns c .told .ensures);
+      place = ap (λ (x : Told). x .device ∷ x .place ∷ []) (told·returns c .told .ensures);
       figures = refused-held (quantify·returns c .quantify .result) _ (match·returns c .match .keys2);
     }
 
@@ -64,8 +58,8 @@ returns-2 c =
     record {
       answer = quantify·returns-2 c .quantify .result;
       settled = quantify·returns-2 c .quantify .ensures;
-      told = sym (ap numberIn is);
-      place = λ i. device·returns-2 c .device .ensures i ∷ place·returns-2 c .place .ensures i ∷ [];
+      told = ap (λ (x : Told). x .number) (told·returns-2 c .told .ensures);
+      place = ap (λ (x : Told). x .device ∷ x .place ∷ []) (told·returns-2 c .told .ensures);
       figures = accepted-held (quantify·returns-2 c .quantify .result) _ _ _ is (c .give .ensures);
     }
 
@@ -74,11 +68,9 @@ cmm-quantify-spec =
     tie.close
     (tie.spec
     quantify-requires
-    device-requires
-    place-requires
+    told-requires
     enum-known-a
     enum-told
-    number-requires
     same-length
     same-length-2
     same-length-3

@@ -1,9 +1,9 @@
--- `library::cmm_read_record` meets its contract: the call's own promise, and what the answer's case leaves in the arrays. Assumes nothing.
+-- `cmm::cmm_read_record` meets its contract: the call's own promise, and what the answer's case leaves in the arrays. Assumes nothing.
 use Prim.Native.Nat.{ℕ}
 use mathlib.Core.List.{[], _∷_}
-use mathlib.Core.Path.{sym, ap}
+use mathlib.Core.Path.{ap}
 use borrow.Author.Needs.{needs}
-use Rattle.drainage_record.specs.Read.{numberOf}
+use Rattle.refusals.specs.declared.Told.{Told}
 use Rattle.cmm.proofs.Answers.{record-head, no-record-head}
 use Rattle.cmm.proofs.cmm_read_record.Statement.{statement}
 use Rattle.cmm.proofs.cmm_read_record.Tie as tie
@@ -13,14 +13,14 @@ use PlaceNames.*
 read-requires : tie.Need-read-requires
 read-requires c κs = search needs
 
-place-requires : tie.Need-place-requires
-place-requires c κs = search needs
+told-requires : tie.Need-told-requires
+told-requires c κs = search needs
 
 enum-known-a : tie.Need-enum-known-a
 enum-known-a c = search needs
 
-number-requires : tie.Need-number-requires
-number-requires c κs = search needs
+enum-told : tie.Need-enum-told
+enum-told c = search needs
 
 same-length : tie.Need-same-length
 same-length c = flow·same-length c .flow .given
@@ -42,8 +42,8 @@ returns c =
     record {
       answer = read·returns c .read .result;
       right = read·returns c .read .ensures;
-      told = c .number .ensures;
-      place = ap (λ (n : ℕ). n ∷ []) (place·returns c .place .ensures);
+      told = ap (λ (x : Told). x .number) (told·returns c .told .ensures);
+      place = ap (λ (n : ℕ). n ∷ []) (ap (λ (x : Told). x .place) (told·returns c .told .ensures));
       head = no-record-head (read·returns c .read .result) _ (match·returns c .match .keys2);
     }
 
@@ -68,8 +68,8 @@ returns-2 c =
     record {
       answer = read·returns-2 c .read .result;
       right = read·returns-2 c .read .ensures;
-      told = sym (ap numberOf is);
-      place = ap (λ (n : ℕ). n ∷ []) (place·returns-2 c .place .ensures);
+      told = ap (λ (x : Told). x .number) (told·returns-2 c .told .ensures);
+      place = ap (λ (n : ℕ). n ∷ []) (ap (λ (x : Told). x .place) (told·returns-2 c .told .ensures));
       head = record-head (read·returns-2 c .read .result) _ _ is;
     }
 
@@ -78,9 +78,9 @@ cmm-read-record-spec =
     tie.close
     (tie.spec
     read-requires
-    place-requires
+    told-requires
     enum-known-a
-    number-requires
+    enum-told
     same-length
     same-length-2
     same-length-3

@@ -1,9 +1,9 @@
--- `library::cmm_read_sheet` meets its contract: the call's own promise, and what the answer's case leaves in the arrays. Assumes nothing.
+-- `cmm::cmm_read_sheet` meets its contract: the call's own promise, and what the answer's case leaves in the arrays. Assumes nothing.
 use Prim.Native.Nat.{ℕ}
 use mathlib.Core.List.{[], _∷_}
-use mathlib.Core.Path.{sym, ap}
+use mathlib.Core.Path.{ap}
 use borrow.Author.Needs.{needs}
-use Rattle.sheet_text.specs.Read as Read
+use Rattle.refusals.specs.declared.Told.{Told}
 use Rattle.cmm.proofs.Answers.{sheet-held, no-sheet-held}
 use Rattle.cmm.proofs.cmm_read_sheet.Statement.{statement}
 use Rattle.cmm.proofs.cmm_read_sheet.Tie as tie
@@ -13,8 +13,8 @@ use PlaceNames.*
 read-requires : tie.Need-read-requires
 read-requires c κs = search needs
 
-place-requires : tie.Need-place-requires
-place-requires c κs = search needs
+told-requires : tie.Need-told-requires
+told-requires c κs = search needs
 
 enum-known-a : tie.Need-enum-known-a
 enum-known-a c = search needs
@@ -22,16 +22,13 @@ enum-known-a c = search needs
 enum-told : tie.Need-enum-told
 enum-told c = search needs
 
-number-requires : tie.Need-number-requires
-number-requires c κs = search needs
-
 returns : tie.Need-returns
 returns c =
     record {
       answer = read·returns c .read .result;
       right = read·returns c .read .ensures;
-      told = c .number .ensures;
-      place = ap (λ (n : ℕ). n ∷ []) (place·returns c .place .ensures);
+      told = ap (λ (x : Told). x .number) (told·returns c .told .ensures);
+      place = ap (λ (n : ℕ). n ∷ []) (ap (λ (x : Told). x .place) (told·returns c .told .ensures));
       figures = no-sheet-held (read·returns c .read .result) _ (match·returns c .match .keys2);
     }
 
@@ -44,8 +41,8 @@ returns-2 c =
     record {
       answer = read·returns-2 c .read .result;
       right = read·returns-2 c .read .ensures;
-      told = sym (ap Read.numberOf is);
-      place = ap (λ (n : ℕ). n ∷ []) (place·returns-2 c .place .ensures);
+      told = ap (λ (x : Told). x .number) (told·returns-2 c .told .ensures);
+      place = ap (λ (n : ℕ). n ∷ []) (ap (λ (x : Told). x .place) (told·returns-2 c .told .ensures));
       figures = sheet-held (read·returns-2 c .read .result) _ _ _ is (c .give .ensures);
     }
 
@@ -54,10 +51,9 @@ cmm-read-sheet-spec =
     tie.close
     (tie.spec
     read-requires
-    place-requires
+    told-requires
     enum-known-a
     enum-told
-    number-requires
     returns
     give-requires
     returns-2)

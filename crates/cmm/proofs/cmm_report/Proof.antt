@@ -1,4 +1,4 @@
--- `library::cmm_report` meets its contract: it is `report::report`'s. Assumes nothing.
+-- `cmm::cmm_report` meets its contract: it is `drainage_report::report`'s. Assumes nothing.
 use borrow.Author.Needs.{needs}
 use Rattle.cmm.proofs.cmm_report.Statement.{statement}
 use Rattle.cmm.proofs.cmm_report.Tie as tie

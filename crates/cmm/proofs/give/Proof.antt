@@ -1,4 +1,4 @@
--- `library::give` meets its contract: the stored literals are the figures, once the signed ones are taken back. Assumes nothing.
+-- `cmm::give` meets its contract: the stored literals are the figures, once the signed ones are taken back. Assumes nothing.
 use mathlib.Core.List.{[], _∷_}
 use mathlib.Core.Path.{refl}
 use mir.ValLaws.{toZ-ofZ}

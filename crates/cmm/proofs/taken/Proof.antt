@@ -1,4 +1,4 @@
--- `library::taken` meets its contract, field by field. Assumes nothing.
+-- `cmm::taken` meets its contract, field by field. Assumes nothing.
 use mir.ValLaws.{toZ-ofZ}
 use mir.Syntax.{w64}
 use lib.IntN.{pos}
