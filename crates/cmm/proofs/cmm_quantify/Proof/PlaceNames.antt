@@ -44,7 +44,6 @@ a·returns-2 c = c .before .before .before .before
 --   After-slice-known/slice-known After-slice-known2/slice-known2 After-slice-known3/slice-known3 After-quantify-arg/quantify-arg
 --   After-quantify-arg2/quantify-arg2 After-quantify-arg3/quantify-arg3 After-quantify-arg4/quantify-arg4 ?quantify-requires After-quantify/quantify
 --   After-outcome/outcome After-slice-known4/slice-known4 After-flow-used/flow-used After-slice-known5/slice-known5 After-content-used/content-used
---   After-slice-known6/slice-known6 ?device-requires After-device/device ?place-requires After-place/place After-at/at At-match-keys1/match ?enum-known-a
---   After-a/a After-known-told/known-told At-match-keys2/match ?enum-told After-enum-told/enum-told ?number-requires After-number/number ?same-length
---   ?same-length-2 ?same-length-3 ?returns After-give-arg/give-arg After-give-arg2/give-arg2 ?give-requires After-give/give ?same-length-4 ?same-length-5
---   ?same-length-6 ?returns-2
+--   After-slice-known6/slice-known6 ?told-requires After-told/told After-at/at At-match-keys1/match ?enum-known-a After-a/a After-known-told/known-told
+--   At-match-keys2/match ?enum-told After-enum-told/enum-told ?same-length ?same-length-2 ?same-length-3 ?returns After-give-arg/give-arg
+--   After-give-arg2/give-arg2 ?give-requires After-give/give ?same-length-4 ?same-length-5 ?same-length-6 ?returns-2
