@@ -1,5 +1,5 @@
 //! The proved library linked into this process, as include/cmm.h declares it: no process is started for a file, and the result
-//! rows are compared too. Built with `--cfg library` only, for x86-64, where `rt staticlib library` has made the archive.
+//! rows are compared too. Built with `--cfg library` only, for x86-64, where `rt staticlib cmm` has made the archive.
 
 use crate::answerer::Answerer;
 use crate::compare::{ask_record, Asked};

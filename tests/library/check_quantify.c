@@ -8,7 +8,7 @@ enum { SLICES = 14 };
 /* A call: each array with its length, as it is lent. */
 struct call {
     uint32_t intervals, devices, mine;
-    uint32_t *kinds, *counts, *places, *press, *quantity, *factor;
+    uint32_t *kinds, *counts, *positions, *press, *quantity, *factor;
     int32_t *drifts;
     uint16_t *flow, *content, *flow_used, *content_used;
     int16_t *temp;
@@ -18,8 +18,8 @@ struct call {
     int64_t *balances;
 };
 
-/* The places in `length`, in the order of the parameters. */
-enum { KINDS, COUNTS, PLACES, DRIFTS, FLOW, CONTENT, TEMP, PRESS, STATUS, QUANTITY, FACTOR, OUTCOME, FLOW_USED, CONTENT_USED };
+/* Where each stands in `length`, in the order of the parameters. */
+enum { KINDS, COUNTS, POSITIONS, DRIFTS, FLOW, CONTENT, TEMP, PRESS, STATUS, QUANTITY, FACTOR, OUTCOME, FLOW_USED, CONTENT_USED };
 
 static void lend(struct call *c, size_t n, size_t d, size_t fuels)
 {
@@ -29,7 +29,7 @@ static void lend(struct call *c, size_t n, size_t d, size_t fuels)
     c->entries = n * d;
     c->kinds = fenced(d * sizeof *c->kinds);
     c->counts = fenced(2 * d * sizeof *c->counts);
-    c->places = fenced(64 * d * sizeof *c->places);
+    c->positions = fenced(64 * d * sizeof *c->positions);
     c->drifts = fenced(64 * d * sizeof *c->drifts);
     c->flow = fenced(n * d * sizeof *c->flow);
     c->content = fenced(n * d * sizeof *c->content);
@@ -77,7 +77,7 @@ static struct call worked(uint32_t n, uint32_t d, uint32_t fuels)
 static uint64_t ask(struct call *c)
 {
     const size_t *l = c->length;
-    return cmm_quantify(c->intervals, c->devices, c->mine, c->kinds, l[KINDS], c->counts, l[COUNTS], c->places, l[PLACES],
+    return cmm_quantify(c->intervals, c->devices, c->mine, c->kinds, l[KINDS], c->counts, l[COUNTS], c->positions, l[POSITIONS],
                         c->drifts, l[DRIFTS], c->flow, l[FLOW], c->content, l[CONTENT], c->temp, l[TEMP], c->press, l[PRESS],
                         c->status, l[STATUS], c->quantity, l[QUANTITY], c->factor, l[FACTOR], c->outcome, l[OUTCOME],
                         c->flow_used, l[FLOW_USED], c->content_used, l[CONTENT_USED], c->amounts, c->balances, c->at);
@@ -175,8 +175,8 @@ static void check_checks(void)
 {
     struct call c = worked(5, 2, 0);
     c.counts[0] = c.counts[1] = c.counts[2] = c.counts[3] = 2;
-    c.places[0] = c.places[32] = c.places[64] = c.places[96] = 0;
-    c.places[1] = c.places[33] = c.places[65] = c.places[97] = 5;
+    c.positions[0] = c.positions[32] = c.positions[64] = c.positions[96] = 0;
+    c.positions[1] = c.positions[33] = c.positions[65] = c.positions[97] = 5;
     c.drifts[0] = c.drifts[32] = c.drifts[64] = c.drifts[96] = -9000;
     c.drifts[1] = c.drifts[33] = c.drifts[65] = c.drifts[97] = 20000;
     accepted("checks at both ends, with the least and the greatest drift", &c);
@@ -184,17 +184,17 @@ static void check_checks(void)
     c.counts[3] = 33;
     refused("a count of 33", c, 7, 1, 32);
     c.counts[2] = 1;
-    c.places[64] = 6;
+    c.positions[64] = 6;
     c.drifts[64] = 0;
     refused("flow before CH4, past the end", c, 7, 1, 0);
-    c.places[64] = 5;
+    c.positions[64] = 5;
     c.drifts[64] = 20001;
     refused("drift 20,001", c, 7, 1, 0);
     c.drifts[64] = -9001;
     refused("drift -9,001", c, 7, 1, 0);
     c.drifts[64] = 0;
     c.counts[3] = 2;
-    c.places[96] = c.places[97] = 3;
+    c.positions[96] = c.positions[97] = 3;
     c.drifts[96] = c.drifts[97] = 0;
     c.flow[0] = 40000;
     refused("of two at one place the later; 7 before 8", c, 7, 1, 1);
@@ -266,7 +266,7 @@ static uint16_t drifted(int32_t drift)
     struct call c = worked(1, 1, 0);
     c.flow[0] = 1000;
     c.counts[0] = 1;
-    c.places[0] = 0;
+    c.positions[0] = 0;
     c.drifts[0] = drift;
     accepted("a check", &c);
     return c.flow_used[0];
