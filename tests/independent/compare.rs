@@ -49,7 +49,7 @@ fn record_kinds(answer: &Result<Quantified, Refusal>) -> Vec<String> {
         Ok(quantified) => quantified,
     };
     let mut kinds = vec!["sheet".to_string()];
-    let met = (0..10).filter(|&outcome| quantified.outcomes[outcome] > 0);
+    let met = (0..10).filter(|&outcome| quantified.with_outcome(outcome) > 0);
     kinds.extend(met.map(|outcome| format!("sheet, outcome {outcome}")));
     if quantified.figures.reduction_mg < 0 {
         kinds.push("sheet, negative".to_string());

@@ -3,6 +3,7 @@
 #![allow(unexpected_cfgs)] // `library` is named on rustc's command line
 
 mod answerer;
+mod call;
 mod compare;
 mod damaged_files;
 mod damaged_sheets;
