@@ -3,7 +3,7 @@
 #define _DEFAULT_SOURCE
 #include "expect.h"
 
-enum { SLICES = 14 };
+enum { SLICES = 14, ACCOUNT = 13, ACCOUNTS_MOST = 16 * ACCOUNT };
 
 /* A call: each array with its length, as it is lent. */
 struct call {
@@ -14,7 +14,7 @@ struct call {
     int16_t *temp;
     uint8_t *status, *outcome;
     size_t length[SLICES], entries;
-    uint64_t *amounts, *at;
+    uint64_t *amounts, *at, *accounts;
     int64_t *balances;
 };
 
@@ -44,6 +44,7 @@ static void lend(struct call *c, size_t n, size_t d, size_t fuels)
     c->amounts = fenced(CMM_AMOUNTS * sizeof *c->amounts);
     c->balances = fenced(CMM_BALANCES * sizeof *c->balances);
     c->at = fenced(2 * sizeof *c->at);
+    c->accounts = fenced(ACCOUNTS_MOST * sizeof *c->accounts);
 }
 
 /* Document 01's worked interval for every interval of every device, with as many of its fuel lines. Entries past the checks'
@@ -80,7 +81,11 @@ static uint64_t ask(struct call *c)
     return cmm_quantify(c->intervals, c->devices, c->mine, c->kinds, l[KINDS], c->counts, l[COUNTS], c->positions, l[POSITIONS],
                         c->drifts, l[DRIFTS], c->flow, l[FLOW], c->content, l[CONTENT], c->temp, l[TEMP], c->press, l[PRESS],
                         c->status, l[STATUS], c->quantity, l[QUANTITY], c->factor, l[FACTOR], c->outcome, l[OUTCOME],
-                        c->flow_used, l[FLOW_USED], c->content_used, l[CONTENT_USED], c->amounts, c->balances, c->at);
+                        c->flow_used, l[FLOW_USED], c->content_used, l[CONTENT_USED],
+#ifdef ACCOUNTS
+                        c->accounts,
+#endif
+                        c->amounts, c->balances, c->at);
 }
 
 /* The call is refused so, and nothing but `at` is written. */
@@ -94,6 +99,30 @@ static void refused(const char *name, struct call c, uint64_t number, uint64_t d
            name, "rows as they were");
     expect(untouched(c.amounts, CMM_AMOUNTS * sizeof *c.amounts) && untouched(c.balances, CMM_BALANCES * sizeof *c.balances), name,
            "figures as they were");
+    expect(untouched(c.accounts, ACCOUNTS_MOST * sizeof *c.accounts), name, "accounts as they were");
+}
+
+/* Each device's account: ten counts that add to N, litres that add to the sheet's; no entry after the last device's. */
+static void accounted(const char *name, const struct call *c)
+{
+#ifdef ACCOUNTS
+    uint64_t methane = 0;
+    size_t d, k;
+    for (d = 0; d < c->devices; d++) {
+        const uint64_t *own = c->accounts + ACCOUNT * d;
+        uint64_t intervals = 0;
+        for (k = 0; k < 10; k++)
+            intervals += own[k];
+        expect(intervals == c->intervals, name, "ten counts");
+        expect(own[11] + own[12] == own[10], name, "each litre once");
+        methane += own[10];
+    }
+    expect(methane == c->amounts[CMM_METHANE_L], name, "every device's litres");
+    expect(untouched(c->accounts + ACCOUNT * d, (ACCOUNTS_MOST - ACCOUNT * d) * sizeof *c->accounts), name, "no other account");
+#else
+    (void)name;
+    (void)c;
+#endif
 }
 
 static void accepted(const char *name, struct call *c)
@@ -101,6 +130,7 @@ static void accepted(const char *name, struct call *c)
     expect(ask(c) == 0, name, "accepted");
     expect(c->at[0] == 0 && c->at[1] == 0, name, "no device, no place");
     expect(c->amounts[CMM_COUNTED] + c->amounts[CMM_EXCLUDED] == (uint64_t)c->intervals * c->devices, name, "every interval once");
+    accounted(name, c);
 }
 
 static void check_worked(void)
