@@ -194,9 +194,15 @@ pub fn tonne_borders(rng: &Rng, case: usize, _row: u64) -> Record {
     for device in &mut record.devices {
         spoil(rng, device, 15);
     }
+    to_tonne_border(rng, case, &mut record);
+    record
+}
+
+/// Replaces the record's fuel, if any will do.
+pub fn to_tonne_border(rng: &Rng, case: usize, record: &mut Record) {
     record.fuels.clear();
-    let Ok(quantified) = quantify(&Call::of(&record)) else {
-        return record;
+    let Ok(quantified) = quantify(&Call::of(record)) else {
+        return;
     };
     let reduction = quantified.figures.reduction_mg;
     let whole = reduction / MG_PER_TONNE;
@@ -208,5 +214,4 @@ pub fn tonne_borders(rng: &Rng, case: usize, _row: u64) -> Record {
         record.fuels.push(Fuel { quantity: 1_000_000_000, factor: whole_tonnes });
         record.fuels.push(Fuel { quantity: (fuel_mg % MG_PER_TONNE) as u32, factor: 1 });
     }
-    record
 }

@@ -2,6 +2,7 @@
 //! as there can be, roundings, whole years.
 
 use crate::draw::{self, cut, CH4_MAX, FLOW_MAX};
+use crate::plain_files::to_tonne_border;
 use crate::protocol::{MOST_CHECKS, MOST_DEVICES, MOST_INTERVALS};
 use crate::record::{Check, Device, Fuel, Record};
 use crate::rng::Rng;
@@ -102,7 +103,6 @@ pub fn lost_by_rounding(rng: &Rng, case: usize, _row: u64) -> Record {
     let n = if case % 40 == 0 { 2_976 } else { rng.pick(&[1, 2, 40]) };
     let mut record = draw::record(rng, n, rng.pick(&[1, 1, 16]));
     record.mine = 1;
-    record.fuels.truncate(case % 2);
     for device in &mut record.devices {
         device.kind = (case % 6) as u32 + 1;
         let one = lossy(rng);
@@ -113,6 +113,9 @@ pub fn lost_by_rounding(rng: &Rng, case: usize, _row: u64) -> Record {
             device.temp[i] = Some(temp);
             device.press[i] = Some(press);
         }
+    }
+    if case / 6 % 3 > 0 {
+        to_tonne_border(rng, case, &mut record);
     }
     record
 }
