@@ -1,8 +1,8 @@
 /* cmm.h: destroyed coal-mine methane quantified by Quebec Protocol 4, as C functions. C99, x86-64 Linux, no C library needed but memset.
  *
- * Link target/staticlib/liblibrary.a, which `rt staticlib library` makes (host/build does it, and builds a program with it).
- * What each function does is proved for every call that keeps to what is asked of the host: crates/library/src/lib.rt has the
- * contracts, crates/library/specs/ their words. This header is not part of any proof.
+ * Link target/staticlib/libcmm.a, which `rt staticlib cmm` makes (host/build does it, and builds a program with it).
+ * What each function does is proved for every call that keeps to what is asked of the host: crates/cmm/src/lib.rt has the
+ * contracts, crates/cmm/specs/ their words. This header is not part of any proof.
  *
  * What is asked of the host
  * - A pointer is not null, not even for an array of length 0, is aligned for its type, and stays valid for its whole array as
@@ -101,9 +101,9 @@ enum {
  *   mine          0 underground, 1 surface
  *   kinds         D: 1 open flare, 2 enclosed flare, 3 engine, 4 boiler, 5 turbine, 6 upgrade and injection
  *   counts        2 D: checks of device 0's flow instrument, of its CH4 instrument, of device 1's flow instrument, ..; 0 .. 32
- *   places        64 D: 32 for each instrument in that order; where a check stands, 0 .. N, before that interval; increasing
+ *   positions     64 D: 32 for each instrument in that order; where a check stands, 0 .. N, before that interval; increasing
  *   drifts        64 D: the drift found there, 0.01 %, -9,000 .. 20,000, positive where the instrument reads high
- *                 Entries of places and drifts past an instrument's count are not looked at.
+ *                 Entries of positions and drifts past an instrument's count are not looked at.
  *   flow          D N, device 0's intervals first: 0.1 m3, 0 .. 30,000, or CMM_FLOW_MISSING
  *   content       D N: CH4, 0.01 % by volume, 0 .. 10,000, or CMM_CONTENT_MISSING
  *   temp          D N: 0.01 degrees Celsius, -4,000 .. 10,000, or CMM_TEMP_MISSING
@@ -125,7 +125,7 @@ uint64_t cmm_quantify(
     uint32_t intervals, uint32_t devices, uint32_t mine,
     const uint32_t *kinds, size_t kinds_length,
     const uint32_t *counts, size_t counts_length,
-    const uint32_t *places, size_t places_length,
+    const uint32_t *positions, size_t positions_length,
     const int32_t *drifts, size_t drifts_length,
     const uint16_t *flow, size_t flow_length,
     const uint16_t *content, size_t content_length,
@@ -153,7 +153,7 @@ uint64_t cmm_read_sheet(
     const uint8_t *t, size_t t_length,
     uint64_t amounts[CMM_AMOUNTS], int64_t balances[CMM_BALANCES], uint64_t offset[1]);
 
-/* Reads a record file into arrays laid out as cmm_quantify wants them: kinds, counts, places and drifts of device d at d, 2 d,
+/* Reads a record file into arrays laid out as cmm_quantify wants them: kinds, counts, positions and drifts of device d at d, 2 d,
  * 64 d and 64 d, its readings at d N. A missing reading becomes its mark. `head` gets intervals, devices, mine and the number of
  * fuel lines. `line` gets 0, or for 12 the number, from 1, of the first wrong line (one past the last if lines are lacking).
  *
@@ -163,7 +163,7 @@ uint64_t cmm_read_sheet(
 uint64_t cmm_read_record(
     const uint8_t *t, size_t t_length,
     uint32_t quantity[64], uint32_t factor[64],
-    uint32_t kinds[16], uint32_t counts[32], uint32_t places[1024], int32_t drifts[1024],
+    uint32_t kinds[16], uint32_t counts[32], uint32_t positions[1024], int32_t drifts[1024],
     uint16_t *flow, size_t flow_length,
     uint16_t *content, size_t content_length,
     int16_t *temp, size_t temp_length,

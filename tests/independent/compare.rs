@@ -1,4 +1,5 @@
-//! Many files, each asked of the thing under test and of the own implementation; answers compared byte by byte.
+//! Many files or calls, each asked of the thing under test and of the own implementation; answers compared byte by
+//! byte.
 
 use crate::answerer::Answerer;
 use crate::possible_text::{sheet_offset, wrong_line};
@@ -11,10 +12,12 @@ use std::path::Path;
 use std::sync::atomic::{AtomicUsize, Ordering};
 use std::sync::Mutex;
 
-/// Where files are kept on which the answers differ.
+/// Where that is kept on which the answers differ.
 const KEPT: &str = "target/independent";
 
-/// From this many files on, every answer and every outcome must have occurred.
+const MOST_KEPT: usize = 10;
+
+/// From this many on, every answer and every outcome must have occurred.
 const ENOUGH: usize = 2_000;
 
 /// A file with the own answer to it. `kinds` says what sort of answer it is, for the summary.
@@ -43,13 +46,16 @@ pub fn ask_record(seed: u64, number: usize, row: u64) -> Asked {
     }
 }
 
-fn record_kinds(answer: &Result<Quantified, Refusal>) -> Vec<String> {
-    let quantified = match answer {
-        Err(refusal) => return vec![format!("refusal {:2}", refusal.number)],
-        Ok(quantified) => quantified,
-    };
+pub fn record_kinds(answer: &Result<Quantified, Refusal>) -> Vec<String> {
+    match answer {
+        Err(refusal) => vec![format!("refusal {:2}", refusal.number)],
+        Ok(quantified) => sheet_kinds(quantified),
+    }
+}
+
+fn sheet_kinds(quantified: &Quantified) -> Vec<String> {
     let mut kinds = vec!["sheet".to_string()];
-    let met = (0..10).filter(|&outcome| quantified.outcomes[outcome] > 0);
+    let met = (0..10).filter(|&outcome| quantified.with_outcome(outcome) > 0);
     kinds.extend(met.map(|outcome| format!("sheet, outcome {outcome}")));
     if quantified.figures.reduction_mg < 0 {
         kinds.push("sheet, negative".to_string());
@@ -60,7 +66,12 @@ fn record_kinds(answer: &Result<Quantified, Refusal>) -> Vec<String> {
 /// Kinds of answer that any long run must meet. A row for the longest record leaves no room for 13.
 pub fn record_kinds_wanted(row: u64) -> Vec<String> {
     let short_row = row < MOST_INTERVALS as u64 * MOST_DEVICES as u64;
-    let refusals = [1, 2, 4, 5, 6, 7, 8, 9, 12, 13].iter().filter(|&&number| number != 13 || short_row);
+    let refusals = [1, 2, 4, 5, 6, 7, 8, 9, 12, 13];
+    kinds_wanted(refusals.into_iter().filter(|&number| number != 13 || short_row))
+}
+
+/// These refusals, every outcome, and a negative reduction.
+pub fn kinds_wanted(refusals: impl Iterator<Item = u32>) -> Vec<String> {
     let outcomes = (0..10).map(|outcome| format!("sheet, outcome {outcome}"));
     let negative = "sheet, negative".to_string();
     refusals.map(|number| format!("refusal {number:2}")).chain(outcomes).chain([negative]).collect()
@@ -78,16 +89,23 @@ pub fn ask_sheet(seed: u64, number: usize) -> Asked {
     }
 }
 
+/// What came of one file or call. `kinds` says what sort of answer it got, for the summary.
+pub struct Judged {
+    pub class: &'static str,
+    pub kinds: Vec<String>,
+    pub difference: Option<String>,
+}
+
 #[derive(Default)]
 pub struct Summary {
     classes: BTreeMap<&'static str, (usize, usize)>,
     kinds: BTreeMap<String, usize>,
-    /// Number of the file and what differs.
+    /// Number of the file or call, and what differs.
     differences: BTreeMap<usize, String>,
 }
 
-/// Asks for every file, on all processors, and sums up.
-pub fn compare(count: usize, ask: &(dyn Fn(usize) -> Asked + Sync), answerer: &dyn Answerer) -> Summary {
+/// Judges each number below `count`, on all processors, and sums up.
+pub fn compare(count: usize, judge: &(dyn Fn(usize) -> Judged + Sync)) -> Summary {
     let next = AtomicUsize::new(0);
     let summary = Mutex::new(Summary::default());
     let workers = std::thread::available_parallelism().map_or(1, |count| count.get());
@@ -98,13 +116,21 @@ pub fn compare(count: usize, ask: &(dyn Fn(usize) -> Asked + Sync), answerer: &d
                 if number >= count {
                     break;
                 }
-                let asked = ask(number);
-                let difference = difference(&asked, answerer);
-                summary.lock().unwrap().add(number, &asked, difference);
+                let judged = judge(number);
+                summary.lock().unwrap().add(number, judged);
             });
         }
     });
     summary.into_inner().unwrap()
+}
+
+/// Asks for a file, compares the answers, and keeps a file on which they differ.
+pub fn judge_file(number: usize, asked: &Asked, answerer: &dyn Answerer) -> Judged {
+    let difference = difference(asked, answerer).map(|difference| {
+        let texts = [("input", &asked.bytes[..]), ("expected", asked.expected.as_bytes())];
+        format!("{difference}; {}", keep(number, &texts))
+    });
+    Judged { class: asked.class, kinds: asked.kinds.clone(), difference }
 }
 
 fn difference(asked: &Asked, answerer: &dyn Answerer) -> Option<String> {
@@ -131,48 +157,50 @@ fn first_difference(expected: &str, answer: &str) -> String {
 }
 
 impl Summary {
-    fn add(&mut self, number: usize, asked: &Asked, difference: Option<String>) {
-        let class = self.classes.entry(asked.class).or_default();
+    fn add(&mut self, number: usize, judged: Judged) {
+        let class = self.classes.entry(judged.class).or_default();
         class.0 += 1;
-        for kind in &asked.kinds {
-            *self.kinds.entry(kind.clone()).or_default() += 1;
+        for kind in judged.kinds {
+            *self.kinds.entry(kind).or_default() += 1;
         }
-        if let Some(difference) = difference {
+        if let Some(difference) = judged.difference {
             class.1 += 1;
-            self.differences.insert(number, format!("{}: {difference}", asked.class));
+            self.differences.insert(number, format!("{}: {difference}", judged.class));
         }
     }
 
-    /// Prints the whole and keeps the first files that differ; true if all is well.
-    pub fn conclude(&self, count: usize, wanted: &[String], ask: &dyn Fn(usize) -> Asked) -> bool {
-        println!("{:24} {:>7} {:>9}", "class", "files", "different");
-        for (class, (files, different)) in &self.classes {
-            println!("{class:24} {files:7} {different:9}");
+    /// Prints the whole, of files or calls; true if all is well.
+    pub fn conclude(&self, what: &str, count: usize, wanted: &[String]) -> bool {
+        println!("{:24} {what:>7} {:>9}", "class", "different");
+        for (class, (all, different)) in &self.classes {
+            println!("{class:24} {all:7} {different:9}");
         }
-        for (kind, files) in &self.kinds {
-            println!("answer: {kind:24} {files:7}");
+        for (kind, all) in &self.kinds {
+            println!("answer: {kind:24} {all:7}");
         }
         for (number, difference) in self.differences.iter().take(10) {
-            println!("file {number}: {difference}; {}", keep(*number, &ask(*number)));
+            println!("number {number}: {difference}");
         }
         let lacking: Vec<&String> = wanted.iter().filter(|kind| !self.kinds.contains_key(*kind)).collect();
         let lacks = count >= ENOUGH && !lacking.is_empty();
         if lacks {
-            println!("no file gave: {lacking:?}");
+            println!("none of the {what} gave: {lacking:?}");
         }
-        println!("{count} files, {} different", self.differences.len());
+        println!("{count} {what}, {} different", self.differences.len());
         self.differences.is_empty() && count > 0 && !lacks
     }
 }
 
-fn keep(number: usize, asked: &Asked) -> String {
-    let name = Path::new(KEPT).join(format!("different-{number:06}"));
-    let input = name.with_extension("input");
-    let kept = std::fs::create_dir_all(KEPT)
-        .and_then(|()| std::fs::write(&input, &asked.bytes))
-        .and_then(|()| std::fs::write(name.with_extension("expected"), &asked.expected));
-    match kept {
-        Ok(()) => format!("kept as {}", input.display()),
+/// Keeps texts about what differs, each under its extension, and says where. After a few the rest is left out.
+pub fn keep(number: usize, texts: &[(&str, &[u8])]) -> String {
+    static COUNT: AtomicUsize = AtomicUsize::new(0);
+    if COUNT.fetch_add(1, Ordering::Relaxed) >= MOST_KEPT {
+        return "not kept".to_string();
+    }
+    let name = |extension: &str| Path::new(KEPT).join(format!("different-{number:06}.{extension}"));
+    let write = |(extension, text): &(&str, &[u8])| std::fs::write(name(extension), text);
+    match std::fs::create_dir_all(KEPT).and_then(|()| texts.iter().try_for_each(write)) {
+        Ok(()) => format!("kept as {}", name("*").display()),
         Err(error) => format!("not kept: {error}"),
     }
 }

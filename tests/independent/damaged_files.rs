@@ -94,7 +94,7 @@ fn base(rng: &Rng, most: usize) -> Record {
 
 pub fn texts(rng: &Rng, case: usize, row: u64) -> Vec<u8> {
     let text = match rng.below(20) {
-        0 => plain_files::several_devices(rng, case, row),
+        0 => plain_files::several_devices(rng, case, row).text(),
         1..=3 => base(rng, 120).text(),
         _ => base(rng, 6).text(),
     };

@@ -1,4 +1,4 @@
-//! Classes of files about gaps and field checks: borders of length and place, neighbours, window values, drift.
+//! Classes of records about gaps and field checks: borders of length and place, neighbours, window values, drift.
 
 use crate::draw::{self, cut, Style, CH4_MAX, FLOW_MAX};
 use crate::record::{Check, Record};
@@ -47,7 +47,7 @@ fn surroundings(rng: &Rng, case: usize, w: usize) -> (usize, usize) {
 }
 
 /// Gaps on both sides of every length's border, at every distance that matters from the row's ends.
-pub fn borders(rng: &Rng, case: usize, row: u64) -> Vec<u8> {
+pub fn borders(rng: &Rng, case: usize, row: u64) -> Record {
     let length = LENGTHS[case % 16];
     let place = case / 16 % 9;
     let (before, after) = surroundings(rng, place, window(length));
@@ -58,7 +58,7 @@ pub fn borders(rng: &Rng, case: usize, row: u64) -> Vec<u8> {
     if rng.chance(3) {
         spoil_around(rng, &mut gap);
     }
-    gap.record.text()
+    gap.record
 }
 
 /// One more missing entry near the far end of a window: inside it the window is not whole, outside it is.
@@ -95,7 +95,7 @@ fn spoil_around(rng: &Rng, gap: &mut OneGap) {
 }
 
 /// Two gaps of one row whose windows just touch, overlap, or reach into the other gap.
-pub fn neighbours(rng: &Rng, case: usize, _row: u64) -> Vec<u8> {
+pub fn neighbours(rng: &Rng, case: usize, _row: u64) -> Record {
     let lengths = [1, 5, 23, 24, 40, 95, 96, 120];
     let (first, second) = (lengths[case % 8], rng.pick(&lengths));
     let w = [window(first), window(second)][case / 8 % 2];
@@ -110,11 +110,11 @@ pub fn neighbours(rng: &Rng, case: usize, _row: u64) -> Vec<u8> {
     // Now and then the second gap is one of the other series, and no neighbour at all.
     let second_series = if other == 0 { 1 - which } else { which };
     cut(device.series(second_series), before + first + between, second);
-    record.text()
+    record
 }
 
 /// Windows that are whole, with values that tell the mean, the two limits and their rounding apart.
-pub fn window_values(rng: &Rng, case: usize, row: u64) -> Vec<u8> {
+pub fn window_values(rng: &Rng, case: usize, row: u64) -> Record {
     let which = case / 3 % 2;
     let length = [rng.size(1, 23), rng.size(24, 95), rng.size(96, 672)][case % 3];
     let w = window(length);
@@ -128,7 +128,7 @@ pub fn window_values(rng: &Rng, case: usize, row: u64) -> Vec<u8> {
     cut(device.series(which), before, length);
     // The other series at its top makes one unit more or less visible on the sheet.
     *device.series(1 - which) = vec![Some(if which == 0 { CH4_MAX } else { FLOW_MAX }); n];
-    gap.record.text()
+    gap.record
 }
 
 fn window_row(rng: &Rng, style: usize, n: usize, w: usize, before: usize, max: u16) -> Vec<Option<u16>> {
@@ -148,7 +148,7 @@ fn window_row(rng: &Rng, style: usize, n: usize, w: usize, before: usize, max: u
 }
 
 /// Field checks at every edge, on short records that show each corrected value.
-pub fn checks(rng: &Rng, case: usize, _row: u64) -> Vec<u8> {
+pub fn checks(rng: &Rng, case: usize, _row: u64) -> Record {
     let n = if case % 8 == 5 {
         rng.size(30, 34)
     } else if case % 5 == 0 {
@@ -180,7 +180,7 @@ pub fn checks(rng: &Rng, case: usize, _row: u64) -> Vec<u8> {
             _ => {}
         }
     }
-    record.text()
+    record
 }
 
 /// Sometimes failed, passed, failed: what a passed check must keep apart.
@@ -194,7 +194,7 @@ fn alternate(rng: &Rng, checks: &mut [Check]) {
 }
 
 /// A gap whose windows lie in corrected stretches, with checks at the edges of gap and windows.
-pub fn drift_and_gaps(rng: &Rng, case: usize, row: u64) -> Vec<u8> {
+pub fn drift_and_gaps(rng: &Rng, case: usize, row: u64) -> Record {
     let length = if case % 4 == 0 { rng.size(24, 95) } else { rng.size(1, 23) };
     let w = window(length);
     let (before, after) = (w + rng.below(6), w + rng.below(6));
@@ -208,5 +208,5 @@ pub fn drift_and_gaps(rng: &Rng, case: usize, row: u64) -> Vec<u8> {
     *device.checks(which) = draw::checks_at(rng, positions);
     let first = device.checks(which).first_mut().unwrap();
     first.drift = rng.pick(&[500, 501, 1_000, 20_000, first.drift]);
-    gap.record.text()
+    gap.record
 }

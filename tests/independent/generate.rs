@@ -1,42 +1,63 @@
 //! The generator of record files: classes in fixed shares, and a file for each seed and number.
 
+use crate::record::Record;
 use crate::rng::Rng;
 use crate::{damaged_files, gap_files, plain_files, refusal_files};
 
-/// A maker takes the random source, the file's number in its class, and the reader's row.
-type Maker = fn(&Rng, usize, u64) -> Vec<u8>;
-
-pub struct Class {
+/// A class of things to generate, and how many of it come in turn.
+pub struct Class<M> {
     pub name: &'static str,
     share: usize,
-    make: Maker,
+    pub make: M,
 }
 
-const fn class(name: &'static str, share: usize, make: Maker) -> Class {
+pub const fn class<M: Copy>(name: &'static str, share: usize, make: M) -> Class<M> {
     Class { name, share, make }
 }
 
-/// How many of each class come in turn. Most files are short, and so is the whole.
-pub const CLASSES: [Class; 19] = [
-    class("small", 14, plain_files::small),
-    class("outcomes", 8, plain_files::outcomes),
-    class("month", 1, plain_files::month),
-    class("several devices", 3, plain_files::several_devices),
-    class("longest", 1, plain_files::longest),
-    class("extremes", 7, plain_files::extremes),
-    class("tonne borders", 5, plain_files::tonne_borders),
-    class("gap borders", 18, gap_files::borders),
-    class("gap neighbours", 8, gap_files::neighbours),
-    class("window values", 10, gap_files::window_values),
-    class("checks", 16, gap_files::checks),
-    class("drift and gaps", 8, gap_files::drift_and_gaps),
-    class("heads", 15, refusal_files::heads),
-    class("one offence", 14, refusal_files::one),
-    class("pairs of offences", 9, refusal_files::pairs),
-    class("rival offenders", 15, refusal_files::rivals),
-    class("one wrong value", 42, damaged_files::values),
-    class("damaged text", 16, damaged_files::texts),
-    class("junk", 3, damaged_files::junk),
+/// The class whose turn it is at this number, from 0, and the case's own number in that class.
+pub fn turn<M>(classes: &[Class<M>], number: usize) -> (&Class<M>, usize) {
+    let round: usize = classes.iter().map(|class| class.share).sum();
+    let mut slot = number % round;
+    for class in classes {
+        if slot < class.share {
+            return (class, number / round * class.share + slot);
+        }
+        slot -= class.share;
+    }
+    unreachable!()
+}
+
+/// Takes the random source, the file's number in its class, and the reader's row: an accepted record, or any bytes.
+#[derive(Clone, Copy)]
+enum Maker {
+    Sound(fn(&Rng, usize, u64) -> Record),
+    Bytes(fn(&Rng, usize, u64) -> Vec<u8>),
+}
+
+use Maker::{Bytes, Sound};
+
+/// Most files are short, and so is the whole.
+const CLASSES: [Class<Maker>; 19] = [
+    class("small", 14, Sound(plain_files::small)),
+    class("outcomes", 8, Sound(plain_files::outcomes)),
+    class("month", 1, Sound(plain_files::month)),
+    class("several devices", 3, Sound(plain_files::several_devices)),
+    class("longest", 1, Bytes(plain_files::longest)),
+    class("extremes", 7, Sound(plain_files::extremes)),
+    class("tonne borders", 5, Sound(plain_files::tonne_borders)),
+    class("gap borders", 18, Sound(gap_files::borders)),
+    class("gap neighbours", 8, Sound(gap_files::neighbours)),
+    class("window values", 10, Sound(gap_files::window_values)),
+    class("checks", 16, Sound(gap_files::checks)),
+    class("drift and gaps", 8, Sound(gap_files::drift_and_gaps)),
+    class("heads", 15, Bytes(refusal_files::heads)),
+    class("one offence", 14, Bytes(refusal_files::one)),
+    class("pairs of offences", 9, Bytes(refusal_files::pairs)),
+    class("rival offenders", 15, Bytes(refusal_files::rivals)),
+    class("one wrong value", 42, Bytes(damaged_files::values)),
+    class("damaged text", 16, Bytes(damaged_files::texts)),
+    class("junk", 3, Bytes(damaged_files::junk)),
 ];
 
 pub struct Generated {
@@ -46,15 +67,11 @@ pub struct Generated {
 
 /// The file with this number, from 0. `row` is the row that the reader is lent.
 pub fn generate(seed: u64, number: usize, row: u64) -> Generated {
-    let round: usize = CLASSES.iter().map(|class| class.share).sum();
-    let mut slot = number % round;
+    let (class, case) = turn(&CLASSES, number);
     let rng = Rng::new(seed, number as u64);
-    for class in &CLASSES {
-        if slot < class.share {
-            let case = number / round * class.share + slot;
-            return Generated { class: class.name, bytes: (class.make)(&rng, case, row) };
-        }
-        slot -= class.share;
-    }
-    unreachable!()
+    let bytes = match class.make {
+        Sound(make) => make(&rng, case, row).text(),
+        Bytes(make) => make(&rng, case, row),
+    };
+    Generated { class: class.name, bytes }
 }

@@ -1,19 +1,25 @@
 //! `independent`: document 01 implemented a second time, apart from the proved crates, with a seeded generator of
 //! record files. See README.md beside this file.
-#![allow(unexpected_cfgs)] // `library` is named on rustc's command line
+#![allow(unexpected_cfgs)] // `accounts` is named on rustc's command line
 
 mod answerer;
+mod call;
+mod calls;
 mod compare;
+mod compare_calls;
 mod damaged_files;
 mod damaged_sheets;
 mod decimal;
 mod draw;
 mod drift;
+mod exact;
 mod gap_files;
 mod gaps;
 mod generate;
-#[cfg(library)]
+mod image;
 mod library;
+mod library_texts;
+mod natural;
 mod outcomes;
 mod plain_files;
 mod possible_text;
@@ -27,11 +33,17 @@ mod refusals;
 mod report;
 mod rng;
 mod selfcheck;
+mod selfcheck_calls;
 mod selfcheck_texts;
 mod sheet;
+mod sound_calls;
 mod tonnes;
+mod wrong_calls;
 
-use answerer::Program;
+use answerer::{Answerer, Program};
+use compare::Asked;
+use library::Library;
+use library_texts::{Records, Sheets};
 use std::io::{Read, Write};
 use std::process::ExitCode;
 
@@ -43,8 +55,10 @@ const USAGE: &str = "usage:
   independent compare SEED COUNT PROGRAM [WORDS]         the program on generated record files
   independent compare-row ROW SEED COUNT PROGRAM [WORDS] the same for a reader that is lent longer rows
   independent compare-sheets SEED COUNT PROGRAM [WORDS]  a program that answers as read-sheet does
-  independent compare-library SEED COUNT ROW     the linked library with rows of this length, result rows too
-  independent compare-library-sheets SEED COUNT  its reader and writer of sheets (both only where it is linked)
+  independent compare-calls SEED COUNT SERVER            the library's cmm_quantify on generated calls
+  independent compare-library SEED COUNT ROW SERVER      its cmm_report with rows of this length, result rows too
+  independent compare-library-sheets SEED COUNT SERVER   its reader and writer of sheets
+  independent show-call SEED NUMBER              the call with this number, and the own answer to it
   independent selfcheck                          the own implementation held to document 01's numbers";
 
 fn main() -> ExitCode {
@@ -76,12 +90,10 @@ fn run(words: &[&str]) -> Option<bool> {
         ["compare", seed, count, program @ ..] => compare_records(default_row, seed, count, program),
         ["compare-row", row, seed, count, program @ ..] => compare_records(row.parse().ok()?, seed, count, program),
         ["compare-sheets", seed, count, program @ ..] => compare_sheets(seed, count, program),
-        #[cfg(library)]
-        ["compare-library", seed, count, row] => {
-            compare_library(seed.parse().ok()?, count.parse().ok()?, row.parse().ok()?)
-        }
-        #[cfg(library)]
-        ["compare-library-sheets", seed, count] => compare_library_sheets(seed.parse().ok()?, count.parse().ok()?),
+        ["compare-calls", seed, count, server @ ..] => compare_calls(seed, count, server),
+        ["compare-library", seed, count, row, server @ ..] => compare_library(seed, count, row, server),
+        ["compare-library-sheets", seed, count, server @ ..] => compare_library_sheets(seed, count, server),
+        ["show-call", seed, number] => Some(show_call(seed.parse().ok()?, number.parse().ok()?)),
         ["selfcheck"] => Some(selfcheck::run()),
         _ => None,
     }
@@ -125,27 +137,46 @@ fn program(words: &[&str]) -> Option<Program> {
 fn compare_records(row: u64, seed: &str, count: &str, words: &[&str]) -> Option<bool> {
     let (seed, count) = (seed.parse().ok()?, count.parse().ok()?);
     let ask = |number| compare::ask_record(seed, number, row);
-    let summary = compare::compare(count, &ask, &program(words)?);
-    Some(summary.conclude(count, &compare::record_kinds_wanted(row), &ask))
+    Some(compare_files(count, &ask, &program(words)?, &compare::record_kinds_wanted(row)))
+}
+
+fn compare_files(count: usize, ask: &(dyn Fn(usize) -> Asked + Sync), asked: &dyn Answerer, wanted: &[String]) -> bool {
+    let summary = compare::compare(count, &|number| compare::judge_file(number, &ask(number), asked));
+    summary.conclude("files", count, wanted)
 }
 
 fn compare_sheets(seed: &str, count: &str, words: &[&str]) -> Option<bool> {
     let (seed, count) = (seed.parse().ok()?, count.parse().ok()?);
     let ask = |number| compare::ask_sheet(seed, number);
-    let summary = compare::compare(count, &ask, &program(words)?);
-    Some(summary.conclude(count, &["sheet".to_string(), "refusal 10".to_string()], &ask))
+    Some(compare_files(count, &ask, &program(words)?, &sheet_kinds_wanted()))
 }
 
-#[cfg(library)]
-fn compare_library(seed: u64, count: usize, row: u64) -> Option<bool> {
-    let ask = |number| library::ask(seed, number, row);
-    let summary = compare::compare(count, &ask, &library::Records { row: row as usize });
-    Some(summary.conclude(count, &compare::record_kinds_wanted(row), &ask))
+fn sheet_kinds_wanted() -> Vec<String> {
+    vec!["sheet".to_string(), "refusal 10".to_string()]
 }
 
-#[cfg(library)]
-fn compare_library_sheets(seed: u64, count: usize) -> Option<bool> {
+fn compare_calls(seed: &str, count: &str, server: &[&str]) -> Option<bool> {
+    let (seed, count, library) = (seed.parse().ok()?, count.parse().ok()?, Library::new(server)?);
+    let summary = compare::compare(count, &|number| compare_calls::judge(seed, number, &library));
+    Some(summary.conclude("calls", count, &compare_calls::wanted()))
+}
+
+fn compare_library(seed: &str, count: &str, row: &str, server: &[&str]) -> Option<bool> {
+    let (seed, count, row, library) =
+        (seed.parse().ok()?, count.parse().ok()?, row.parse().ok()?, Library::new(server)?);
+    let records = Records { library: &library, row: row as usize };
+    let ask = |number| library_texts::ask(seed, number, row);
+    Some(compare_files(count, &ask, &records, &compare::record_kinds_wanted(row)))
+}
+
+fn compare_library_sheets(seed: &str, count: &str, server: &[&str]) -> Option<bool> {
+    let (seed, count, library) = (seed.parse().ok()?, count.parse().ok()?, Library::new(server)?);
     let ask = |number| compare::ask_sheet(seed, number);
-    let summary = compare::compare(count, &ask, &library::Sheets);
-    Some(summary.conclude(count, &["sheet".to_string(), "refusal 10".to_string()], &ask))
+    Some(compare_files(count, &ask, &Sheets { library: &library }, &sheet_kinds_wanted()))
+}
+
+fn show_call(seed: u64, number: usize) -> bool {
+    let call = calls::generate(seed, number).call;
+    let answer = quantify::quantify(&call);
+    print(&format!("{call:?}\n{}", report::text(&answer)))
 }

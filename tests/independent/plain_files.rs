@@ -1,12 +1,13 @@
-//! Classes of files that are accepted: small ones, all outcomes, months, many devices, extremes, tonne borders.
+//! Classes of records that are accepted: small ones, all outcomes, months, many devices, extremes, tonne borders.
 
+use crate::call::Call;
 use crate::draw::{self, cut, CH4_MAX, FLOW_MAX};
 use crate::protocol::{MG_PER_TONNE, MOST_DEVICES, MOST_INTERVALS, PROGRAM_ROW};
 use crate::quantify::quantify;
 use crate::record::{Check, Device, Fuel, Record};
 use crate::rng::Rng;
 
-pub fn small(rng: &Rng, case: usize, _row: u64) -> Vec<u8> {
+pub fn small(rng: &Rng, case: usize, _row: u64) -> Record {
     let n = if case % 4 == 0 { rng.size(1, 3) } else { rng.size(1, 30) };
     let mut record = draw::record(rng, n, rng.size(1, 4));
     for device in &mut record.devices {
@@ -15,11 +16,11 @@ pub fn small(rng: &Rng, case: usize, _row: u64) -> Vec<u8> {
         }
         spoil(rng, device, 12);
     }
-    record.text()
+    record
 }
 
 /// About one in `one_in` intervals gets another status and loses some of its readings.
-fn spoil(rng: &Rng, device: &mut Device, one_in: usize) {
+pub fn spoil(rng: &Rng, device: &mut Device, one_in: usize) {
     for i in 0..device.status.len() {
         if rng.chance(one_in) {
             device.status[i] = rng.below(4) as u8;
@@ -39,8 +40,9 @@ fn spoil(rng: &Rng, device: &mut Device, one_in: usize) {
     }
 }
 
-/// Every outcome: short gaps with whole windows and without, other statuses, lost conditions; sometimes a very long gap.
-pub fn outcomes(rng: &Rng, case: usize, _row: u64) -> Vec<u8> {
+/// Every outcome: short gaps with whole windows and without, other statuses, lost conditions; sometimes a very long
+/// gap.
+pub fn outcomes(rng: &Rng, case: usize, _row: u64) -> Record {
     let long = case % 8 == 0;
     let n = if long { rng.size(720, 800) } else { rng.size(40, 160) };
     let devices = rng.size(1, if long { 2 } else { 3 });
@@ -67,11 +69,11 @@ pub fn outcomes(rng: &Rng, case: usize, _row: u64) -> Vec<u8> {
             }
         }
     }
-    record.text()
+    record
 }
 
 /// One device's month: slow swings, weekly checks, some gaps of every length, some stops.
-pub fn month(rng: &Rng, _case: usize, row: u64) -> Vec<u8> {
+pub fn month(rng: &Rng, _case: usize, row: u64) -> Record {
     let n = row.min(2_976) as usize;
     let mut record = draw::record(rng, n, 1);
     let device = &mut record.devices[0];
@@ -95,7 +97,7 @@ pub fn month(rng: &Rng, _case: usize, row: u64) -> Vec<u8> {
         let (from, status) = (rng.below(n - 50), rng.pick(&[0, 0, 1, 3]));
         device.status[from..from + rng.size(1, 50)].fill(status);
     }
-    record.text()
+    record
 }
 
 /// As many intervals as the reader's rows hold for so many devices; of longer rows mostly only the program's part.
@@ -105,7 +107,7 @@ pub fn row_length(rng: &Rng, devices: usize, row: u64) -> usize {
 }
 
 /// Rows as long as the reader is lent, for every number of devices.
-pub fn several_devices(rng: &Rng, case: usize, row: u64) -> Vec<u8> {
+pub fn several_devices(rng: &Rng, case: usize, row: u64) -> Record {
     let devices = [16, 2, 12, 8, 3, 6, 4, 5, 7, 9, 10, 11, 13, 14, 15][case % 15];
     let n = row_length(rng, devices, row) - rng.pick(&[0, 0, 0, 1, 20]);
     let mut record = draw::record(rng, n, devices);
@@ -118,7 +120,7 @@ pub fn several_devices(rng: &Rng, case: usize, row: u64) -> Vec<u8> {
         }
         spoil(rng, device, 150);
     }
-    record.text()
+    record
 }
 
 /// The longest files: of accepted values, and of any values that the reader takes; whole and with a damaged end.
@@ -162,7 +164,7 @@ pub fn longest_record(any_width: bool) -> Record {
 }
 
 /// One value of each series for every interval, at the ends of its range.
-pub fn extremes(rng: &Rng, case: usize, row: u64) -> Vec<u8> {
+pub fn extremes(rng: &Rng, case: usize, row: u64) -> Record {
     let devices = rng.pick(&[1, 1, 2, 16]);
     let n = if case % 20 == 0 { row_length(rng, devices, row) } else { rng.size(1, 12) };
     let mut record = draw::record(rng, n, devices);
@@ -182,19 +184,25 @@ pub fn extremes(rng: &Rng, case: usize, row: u64) -> Vec<u8> {
         2 => record.fuels = (0..64).map(|_| draw::fuel(rng)).collect(),
         _ => {}
     }
-    record.text()
+    record
 }
 
 /// Fuel chosen so that the reduction lies on, just under or just over a whole tonne, above or below 0.
-pub fn tonne_borders(rng: &Rng, case: usize, _row: u64) -> Vec<u8> {
+pub fn tonne_borders(rng: &Rng, case: usize, _row: u64) -> Record {
     let n = rng.size(1, 20);
     let mut record = draw::record(rng, n, 1 + case % 3);
     for device in &mut record.devices {
         spoil(rng, device, 15);
     }
+    to_tonne_border(rng, case, &mut record);
+    record
+}
+
+/// Replaces the record's fuel, if any will do.
+pub fn to_tonne_border(rng: &Rng, case: usize, record: &mut Record) {
     record.fuels.clear();
-    let Ok(quantified) = quantify(&record) else {
-        return record.text();
+    let Ok(quantified) = quantify(&Call::of(record)) else {
+        return;
     };
     let reduction = quantified.figures.reduction_mg;
     let whole = reduction / MG_PER_TONNE;
@@ -206,5 +214,4 @@ pub fn tonne_borders(rng: &Rng, case: usize, _row: u64) -> Vec<u8> {
         record.fuels.push(Fuel { quantity: 1_000_000_000, factor: whole_tonnes });
         record.fuels.push(Fuel { quantity: (fuel_mg % MG_PER_TONNE) as u32, factor: 1 });
     }
-    record.text()
 }

@@ -5,6 +5,12 @@ pub const MOST_DEVICES: u32 = 16;
 pub const MOST_CHECKS: usize = 32;
 pub const MOST_FUELS: usize = 64;
 
+/// The series' missing marks.
+pub const FLOW_MISSING: u16 = 65_535;
+pub const CH4_MISSING: u16 = 65_535;
+pub const TEMP_MISSING: i16 = -32_768;
+pub const PRESS_MISSING: u32 = 0;
+
 /// Entries of the rows that the program lends to the record's reader.
 pub const PROGRAM_ROW: u64 = 2_976;
 

@@ -1,51 +1,58 @@
-//! The whole quantification: refusals first, then each device's rows and the sheet's figures.
+//! The whole quantification: refusals first, then each device's rows and account and the sheet's figures.
 
+use crate::call::Call;
 use crate::outcomes::{counts, device_rows, DeviceRows};
-use crate::record::{Device, Record};
+use crate::record::Device;
 use crate::refusal::Refusal;
 use crate::refusals::refusal;
 use crate::sheet::Figures;
-use crate::tonnes::{balance, credits, litres, methane_litres, tonnes};
+use crate::tonnes::{balance, credits, litres, methane_litres, tonnes, Balance};
 
 pub struct Quantified {
     pub figures: Figures,
     pub rows: Vec<DeviceRows>,
-    pub outcomes: [u64; 10],
+    pub accounts: Vec<Account>,
 }
 
-pub fn quantify(record: &Record) -> Result<Quantified, Refusal> {
-    if let Some(refusal) = refusal(record) {
+/// What is told of one device: how many of its intervals have each outcome, and its litres.
+pub struct Account {
+    pub counts: [u64; 10],
+    pub methane: i128,
+    pub balance: Balance,
+}
+
+pub fn quantify(call: &Call) -> Result<Quantified, Refusal> {
+    if let Some(refusal) = refusal(call) {
         return Err(refusal);
     }
-    let rows: Vec<DeviceRows> = record.devices.iter().map(device_rows).collect();
-    let mut outcomes = [0; 10];
-    for row in &rows {
-        for (sum, count) in outcomes.iter_mut().zip(counts(&row.outcome)) {
-            *sum += count;
-        }
-    }
-    let figures = figures(record, &rows, &outcomes);
-    Ok(Quantified { figures, rows, outcomes })
+    let devices: Vec<Device> = (0..call.devices as usize).map(|number| call.device(number)).collect();
+    let rows: Vec<DeviceRows> = devices.iter().map(device_rows).collect();
+    let accounts: Vec<Account> = devices.iter().zip(&rows).map(|(device, row)| account(device, row)).collect();
+    Ok(Quantified { figures: figures(call, &accounts), rows, accounts })
 }
 
-fn figures(record: &Record, rows: &[DeviceRows], outcomes: &[u64; 10]) -> Figures {
+fn account(device: &Device, row: &DeviceRows) -> Account {
+    let methane = device_methane(device, row);
+    Account { counts: counts(&row.outcome), methane, balance: balance(methane, device.kind) }
+}
+
+fn figures(call: &Call, accounts: &[Account]) -> Figures {
     let mut f = Figures::default();
-    f.intervals = record.intervals as i128;
-    f.devices = record.devices.len() as i128;
-    f.counted = (outcomes[0] + outcomes[1] + outcomes[2]) as i128;
-    f.replaced = (outcomes[1] + outcomes[2]) as i128;
-    f.excluded = outcomes[3..].iter().sum::<u64>() as i128;
-    for (device, row) in record.devices.iter().zip(rows) {
-        let methane = device_methane(device, row);
-        let part = balance(methane, device.kind);
+    f.intervals = call.intervals as i128;
+    f.devices = call.devices as i128;
+    for Account { counts, methane, balance } in accounts {
+        f.counted += (counts[0] + counts[1] + counts[2]) as i128;
+        f.replaced += (counts[1] + counts[2]) as i128;
+        f.excluded += counts[3..].iter().sum::<u64>() as i128;
         f.methane_l += methane;
-        f.destroyed_l += part.destroyed;
-        f.uncombusted_l += part.uncombusted;
-        f.baseline_mg += part.baseline_mg;
-        f.co2_mg += part.co2_mg;
-        f.uncombusted_mg += part.uncombusted_mg;
+        f.destroyed_l += balance.destroyed;
+        f.uncombusted_l += balance.uncombusted;
+        f.baseline_mg += balance.baseline_mg;
+        f.co2_mg += balance.co2_mg;
+        f.uncombusted_mg += balance.uncombusted_mg;
     }
-    f.fuel_mg = record.fuels.iter().map(|fuel| fuel.quantity as i128 * fuel.factor as i128).sum();
+    f.fuel_mg =
+        call.quantity.iter().zip(&call.factor).map(|(&quantity, &factor)| quantity as i128 * factor as i128).sum();
     f.reduction_mg = f.baseline_mg - f.co2_mg - f.uncombusted_mg - f.fuel_mg;
     f.tonnes = tonnes(f.reduction_mg);
     f.credits = credits(f.tonnes);
@@ -60,4 +67,19 @@ fn device_methane(device: &Device, row: &DeviceRows) -> i128 {
         }
     }
     sum
+}
+
+impl Quantified {
+    /// How many intervals of all devices have this outcome.
+    pub fn with_outcome(&self, outcome: usize) -> u64 {
+        self.accounts.iter().map(|account| account.counts[outcome]).sum()
+    }
+}
+
+impl Account {
+    /// The ten counts, then methane, destroyed and uncombusted litres.
+    pub fn numbers(&self) -> [u64; 13] {
+        let litres = [self.methane, self.balance.destroyed, self.balance.uncombusted].map(|litres| litres as u64);
+        [&self.counts[..], &litres].concat().try_into().unwrap()
+    }
 }

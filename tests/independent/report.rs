@@ -1,12 +1,13 @@
 //! Bytes in, bytes out: what the program `sheet` prints for a record file, and a reader of sheets for a sheet.
 
+use crate::call::Call;
 use crate::quantify::{quantify, Quantified};
 use crate::record_reader::read_record;
 use crate::refusal::Refusal;
 use crate::sheet::{read_sheet, sheet_text};
 
 pub fn answer(input: &[u8], row: u64) -> Result<Quantified, Refusal> {
-    quantify(&read_record(input, row)?)
+    quantify(&Call::of(&read_record(input, row)?))
 }
 
 pub fn text(answer: &Result<Quantified, Refusal>) -> String {

@@ -1,6 +1,7 @@
 //! The own implementation held to document 01: its worked example, its numbers on both sides of a limit, the largest
 //! numbers, and wherever something is worked out in two ways, the two against each other.
 
+use crate::call::Call;
 use crate::drift::{corrected, corrected_by_stretches, corrected_value};
 use crate::gaps::{lower_limit, lower_limit_by_root, mean};
 use crate::outcomes::device_rows;
@@ -9,7 +10,7 @@ use crate::quantify::quantify;
 use crate::record::{Check, Device, Fuel, Record};
 use crate::rng::Rng;
 use crate::tonnes::{balance, credits, litres, methane_litres, tonnes};
-use crate::{compare, draw, selfcheck_texts, sheet};
+use crate::{compare, draw, selfcheck_calls, selfcheck_texts, sheet};
 use std::fmt::Debug;
 
 #[derive(Default)]
@@ -40,6 +41,7 @@ pub fn run() -> bool {
     largest_numbers(&mut checks);
     longest_texts(&mut checks);
     selfcheck_texts::run(&mut checks);
+    selfcheck_calls::run(&mut checks);
     two_ways(&mut checks);
     println!("selfcheck: {} passed, {} failed", checks.passed, checks.failed);
     checks.failed == 0 && checks.passed > 0
@@ -129,7 +131,7 @@ fn gap_borders(checks: &mut Checks) {
         fuels: vec![],
         devices: vec![with_gap(40, 5, 15, 16), with_gap(20, 5, 35, 16)],
     };
-    let rows = quantify(&next_row).unwrap().rows;
+    let rows = quantify(&Call::of(&next_row)).unwrap().rows;
     checks.same("no window runs into the next row", (rows[0].outcome[40], rows[1].outcome[20]), (9, 1));
 }
 
@@ -166,7 +168,7 @@ fn full_record(kind: u32, flow: u16, fuels: usize) -> Record {
 }
 
 fn largest_numbers(checks: &mut Checks) {
-    let figures = |kind, flow, fuels| quantify(&full_record(kind, flow, fuels)).unwrap().figures;
+    let figures = |kind, flow, fuels| quantify(&Call::of(&full_record(kind, flow, fuels))).unwrap().figures;
     let most = figures(2, 30_000, 0);
     checks.same("Q of a device", most.methane_l, 16 * 392_403_310_272);
     checks.same("baseline_mg", most.baseline_mg, 87_942_290_671_678_464);

@@ -3,12 +3,12 @@
 #define _DEFAULT_SOURCE
 #include "expect.h"
 
-enum { SLICES = 14 };
+enum { SLICES = 14, ACCOUNT = 13, ACCOUNTS_MOST = 16 * ACCOUNT };
 
 /* A call: each array with its length, as it is lent. */
 struct call {
     uint32_t intervals, devices, mine;
-    uint32_t *kinds, *counts, *places, *press, *quantity, *factor;
+    uint32_t *kinds, *counts, *positions, *press, *quantity, *factor;
     int32_t *drifts;
     uint16_t *flow, *content, *flow_used, *content_used;
     int16_t *temp;
@@ -18,8 +18,8 @@ struct call {
     int64_t *balances;
 };
 
-/* The places in `length`, in the order of the parameters. */
-enum { KINDS, COUNTS, PLACES, DRIFTS, FLOW, CONTENT, TEMP, PRESS, STATUS, QUANTITY, FACTOR, OUTCOME, FLOW_USED, CONTENT_USED };
+/* Where each stands in `length`, in the order of the parameters. */
+enum { KINDS, COUNTS, POSITIONS, DRIFTS, FLOW, CONTENT, TEMP, PRESS, STATUS, QUANTITY, FACTOR, OUTCOME, FLOW_USED, CONTENT_USED };
 
 static void lend(struct call *c, size_t n, size_t d, size_t fuels)
 {
@@ -29,7 +29,7 @@ static void lend(struct call *c, size_t n, size_t d, size_t fuels)
     c->entries = n * d;
     c->kinds = fenced(d * sizeof *c->kinds);
     c->counts = fenced(2 * d * sizeof *c->counts);
-    c->places = fenced(64 * d * sizeof *c->places);
+    c->positions = fenced(64 * d * sizeof *c->positions);
     c->drifts = fenced(64 * d * sizeof *c->drifts);
     c->flow = fenced(n * d * sizeof *c->flow);
     c->content = fenced(n * d * sizeof *c->content);
@@ -45,6 +45,7 @@ static void lend(struct call *c, size_t n, size_t d, size_t fuels)
     c->amounts = fenced(CMM_AMOUNTS * sizeof *c->amounts);
     c->balances = fenced(CMM_BALANCES * sizeof *c->balances);
     c->at = fenced(2 * sizeof *c->at);
+    c->accounts = fenced(ACCOUNTS_MOST * sizeof *c->accounts);
 }
 
 /* Document 01's worked interval for every interval of every device, with as many of its fuel lines. Entries past the checks'
@@ -78,7 +79,7 @@ static struct call worked(uint32_t n, uint32_t d, uint32_t fuels)
 static uint64_t ask(struct call *c)
 {
     const size_t *l = c->length;
-    return cmm_quantify(c->intervals, c->devices, c->mine, c->kinds, l[KINDS], c->counts, l[COUNTS], c->places, l[PLACES],
+    return cmm_quantify(c->intervals, c->devices, c->mine, c->kinds, l[KINDS], c->counts, l[COUNTS], c->positions, l[POSITIONS],
                         c->drifts, l[DRIFTS], c->flow, l[FLOW], c->content, l[CONTENT], c->temp, l[TEMP], c->press, l[PRESS],
                         c->status, l[STATUS], c->quantity, l[QUANTITY], c->factor, l[FACTOR], c->outcome, l[OUTCOME],
                         c->flow_used, l[FLOW_USED], c->content_used, l[CONTENT_USED], c->accounts, c->amounts, c->balances, c->at);
@@ -96,6 +97,30 @@ static void refused(const char *name, struct call c, uint64_t number, uint64_t d
     expect(untouched(c.accounts, CMM_ACCOUNTS * sizeof *c.accounts), name, "accounts as they were");
     expect(untouched(c.amounts, CMM_AMOUNTS * sizeof *c.amounts) && untouched(c.balances, CMM_BALANCES * sizeof *c.balances), name,
            "figures as they were");
+    expect(untouched(c.accounts, ACCOUNTS_MOST * sizeof *c.accounts), name, "accounts as they were");
+}
+
+/* Each device's account: ten counts that add to N, litres that add to the sheet's; no entry after the last device's. */
+static void accounted(const char *name, const struct call *c)
+{
+#ifdef ACCOUNTS
+    uint64_t methane = 0;
+    size_t d, k;
+    for (d = 0; d < c->devices; d++) {
+        const uint64_t *own = c->accounts + ACCOUNT * d;
+        uint64_t intervals = 0;
+        for (k = 0; k < 10; k++)
+            intervals += own[k];
+        expect(intervals == c->intervals, name, "ten counts");
+        expect(own[11] + own[12] == own[10], name, "each litre once");
+        methane += own[10];
+    }
+    expect(methane == c->amounts[CMM_METHANE_L], name, "every device's litres");
+    expect(untouched(c->accounts + ACCOUNT * d, (ACCOUNTS_MOST - ACCOUNT * d) * sizeof *c->accounts), name, "no other account");
+#else
+    (void)name;
+    (void)c;
+#endif
 }
 
 /* Each device's counts are those of its outcomes, its litres are destroyed or uncombusted, the sheet's litres are the sums, and
@@ -203,8 +228,8 @@ static void check_checks(void)
 {
     struct call c = worked(5, 2, 0);
     c.counts[0] = c.counts[1] = c.counts[2] = c.counts[3] = 2;
-    c.places[0] = c.places[32] = c.places[64] = c.places[96] = 0;
-    c.places[1] = c.places[33] = c.places[65] = c.places[97] = 5;
+    c.positions[0] = c.positions[32] = c.positions[64] = c.positions[96] = 0;
+    c.positions[1] = c.positions[33] = c.positions[65] = c.positions[97] = 5;
     c.drifts[0] = c.drifts[32] = c.drifts[64] = c.drifts[96] = -9000;
     c.drifts[1] = c.drifts[33] = c.drifts[65] = c.drifts[97] = 20000;
     accepted("checks at both ends, with the least and the greatest drift", &c);
@@ -212,17 +237,17 @@ static void check_checks(void)
     c.counts[3] = 33;
     refused("a count of 33", c, 7, 1, 32);
     c.counts[2] = 1;
-    c.places[64] = 6;
+    c.positions[64] = 6;
     c.drifts[64] = 0;
     refused("flow before CH4, past the end", c, 7, 1, 0);
-    c.places[64] = 5;
+    c.positions[64] = 5;
     c.drifts[64] = 20001;
     refused("drift 20,001", c, 7, 1, 0);
     c.drifts[64] = -9001;
     refused("drift -9,001", c, 7, 1, 0);
     c.drifts[64] = 0;
     c.counts[3] = 2;
-    c.places[96] = c.places[97] = 3;
+    c.positions[96] = c.positions[97] = 3;
     c.drifts[96] = c.drifts[97] = 0;
     c.flow[0] = 40000;
     refused("of two at one place the later; 7 before 8", c, 7, 1, 1);
@@ -294,7 +319,7 @@ static uint16_t drifted(int32_t drift)
     struct call c = worked(1, 1, 0);
     c.flow[0] = 1000;
     c.counts[0] = 1;
-    c.places[0] = 0;
+    c.positions[0] = 0;
     c.drifts[0] = drift;
     accepted("a check", &c);
     return c.flow_used[0];

@@ -104,7 +104,7 @@ static const char worked_record[] = HEAD "flow=30000\nch4=10000\ntemp=2000\npres
 
 /* Everything that a reading may write, each array of exactly its length. */
 struct rows {
-    uint32_t *quantity, *factor, *kinds, *counts, *places, *press, *head;
+    uint32_t *quantity, *factor, *kinds, *counts, *positions, *press, *head;
     int32_t *drifts;
     uint16_t *flow, *content;
     int16_t *temp;
@@ -121,7 +121,7 @@ static struct rows room(size_t entries)
     r.factor = fenced(64 * sizeof *r.factor);
     r.kinds = fenced(16 * sizeof *r.kinds);
     r.counts = fenced(32 * sizeof *r.counts);
-    r.places = fenced(1024 * sizeof *r.places);
+    r.positions = fenced(1024 * sizeof *r.positions);
     r.drifts = fenced(1024 * sizeof *r.drifts);
     r.flow = fenced(entries * sizeof *r.flow);
     r.content = fenced(entries * sizeof *r.content);
@@ -135,7 +135,7 @@ static struct rows room(size_t entries)
 
 static uint64_t ask(const char *text, struct rows *r, size_t status_length)
 {
-    return cmm_read_record(lent(text), strlen(text), r->quantity, r->factor, r->kinds, r->counts, r->places, r->drifts, r->flow,
+    return cmm_read_record(lent(text), strlen(text), r->quantity, r->factor, r->kinds, r->counts, r->positions, r->drifts, r->flow,
                            r->entries, r->content, r->entries, r->temp, r->entries, r->press, r->entries, r->status, status_length,
                            r->head, r->line);
 }
@@ -148,7 +148,7 @@ static int kept(const struct rows *r, size_t fuels, size_t devices, size_t count
         && untouched(r->factor + fuels, (64 - fuels) * sizeof *r->factor)
         && untouched(r->kinds + devices, (16 - devices) * sizeof *r->kinds)
         && untouched(r->counts + counts, (32 - counts) * sizeof *r->counts)
-        && untouched(r->places + checks, (1024 - checks) * sizeof *r->places)
+        && untouched(r->positions + checks, (1024 - checks) * sizeof *r->positions)
         && untouched(r->drifts + checks, (1024 - checks) * sizeof *r->drifts)
         && untouched(r->flow + entries, left * sizeof *r->flow) && untouched(r->content + entries, left * sizeof *r->content)
         && untouched(r->temp + entries, left * sizeof *r->temp) && untouched(r->press + entries, left * sizeof *r->press)
@@ -177,8 +177,8 @@ static void check_layout(void)
     expect(ask(text, &r, 2) == 0 && r.head[1] == 2 && r.head[2] == 7, "two devices", "read, ranges unseen");
     expect(r.kinds[0] == 9 && r.kinds[1] == 4294967295, "two devices", "kinds");
     expect(r.counts[0] == 1 && r.counts[1] == 1 && r.counts[2] == 0 && r.counts[3] == 1, "two devices", "counts");
-    expect(r.places[0] == 1 && r.drifts[0] == -9000 && r.places[32] == 4 && r.drifts[32] == 5, "first device", "checks");
-    expect(r.places[96] == 0 && r.drifts[96] == INT32_MIN && untouched(r.places + 64, 32 * 4), "second device", "checks");
+    expect(r.positions[0] == 1 && r.drifts[0] == -9000 && r.positions[32] == 4 && r.drifts[32] == 5, "first device", "checks");
+    expect(r.positions[96] == 0 && r.drifts[96] == INT32_MIN && untouched(r.positions + 64, 32 * 4), "second device", "checks");
     expect(r.flow[0] == CMM_FLOW_MISSING && r.content[0] == CMM_CONTENT_MISSING && r.temp[0] == CMM_TEMP_MISSING
                && r.press[0] == CMM_PRESS_MISSING && r.status[0] == 3,
            "two devices", "missing marks");
