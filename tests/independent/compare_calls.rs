@@ -11,8 +11,7 @@ use crate::quantify::{quantify, Quantified};
 use crate::refusal::Refusal;
 use crate::rng::Rng;
 
-/// Whether the library gives each device's account: 13 numbers for each of 16 devices.
-const ACCOUNTS: bool = cfg!(accounts);
+/// Each device's account: 13 numbers for each of 16 devices.
 const ACCOUNT: usize = 13;
 const ACCOUNTS_LENGTH: usize = 16 * ACCOUNT;
 
@@ -48,7 +47,7 @@ pub fn judge(seed: u64, number: usize, library: &Library) -> Judged {
 /// Every array of the call; those that it may write hold something drawn.
 fn lent(call: &Call, rng: &Rng) -> Image {
     let [outcome, flow_used, content_used] = call.rows;
-    let mut arrays = vec![
+    let arrays = vec![
         Array::of("kinds", &call.kinds),
         Array::of("counts", &call.counts),
         Array::of("positions", &call.positions),
@@ -66,10 +65,8 @@ fn lent(call: &Call, rng: &Rng) -> Image {
         Array::drawn::<u64>(rng, "amounts", 13),
         Array::drawn::<i64>(rng, "balances", 2),
         Array::drawn::<u64>(rng, "at", 2),
+        Array::drawn::<u64>(rng, "accounts", ACCOUNTS_LENGTH),
     ];
-    if ACCOUNTS {
-        arrays.push(Array::drawn::<u64>(rng, "accounts", ACCOUNTS_LENGTH));
-    }
     Image::new(rng, arrays)
 }
 
@@ -79,10 +76,7 @@ fn words(call: &Call, image: &Image) -> Vec<u64> {
     for (slice, length) in SLICES.iter().zip(call.lengths()) {
         words.extend([image.start(slice), length as u64]);
     }
-    words.extend(["amounts", "balances", "at"].map(|name| image.start(name)));
-    if ACCOUNTS {
-        words.push(image.start("accounts"));
-    }
+    words.extend(["amounts", "balances", "at", "accounts"].map(|name| image.start(name)));
     words
 }
 
@@ -109,10 +103,8 @@ fn expected(answer: &Answer, before: &Image) -> Image {
             image.write("at", &[0_u64, 0]);
             write_rows(&mut image, quantified);
             write_figures(&mut image, quantified);
-            if ACCOUNTS {
-                let numbers: Vec<u64> = quantified.accounts.iter().flat_map(|account| account.numbers()).collect();
-                image.write("accounts", &numbers);
-            }
+            let numbers: Vec<u64> = quantified.accounts.iter().flat_map(|account| account.numbers()).collect();
+            image.write("accounts", &numbers);
         }
     }
     image
@@ -144,11 +136,9 @@ fn unfair_answer(call: &Call, after: &Image) -> Option<&'static str> {
     };
     let amounts = after.read::<u64>("amounts");
     let mut litres = vec![[amounts[5], amounts[6], amounts[7]]];
-    if ACCOUNTS {
-        let accounts = after.read::<u64>("accounts");
-        let own = accounts.chunks_exact(ACCOUNT).take(call.devices as usize);
-        litres.extend(own.map(|account| [account[10], account[11], account[12]]));
-    }
+    let accounts = after.read::<u64>("accounts");
+    let own = accounts.chunks_exact(ACCOUNT).take(call.devices as usize);
+    litres.extend(own.map(|account| [account[10], account[11], account[12]]));
     if litres.iter().any(|[methane, destroyed, uncombusted]| destroyed + uncombusted != *methane) {
         return Some("a litre is not destroyed or uncombusted, once");
     }

@@ -1,6 +1,5 @@
 //! `independent`: document 01 implemented a second time, apart from the proved crates, with a seeded generator of
 //! record files. See README.md beside this file.
-#![allow(unexpected_cfgs)] // `accounts` is named on rustc's command line
 
 mod answerer;
 mod call;

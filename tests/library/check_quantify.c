@@ -3,7 +3,7 @@
 #define _DEFAULT_SOURCE
 #include "expect.h"
 
-enum { SLICES = 14, ACCOUNT = 13, ACCOUNTS_MOST = 16 * ACCOUNT };
+enum { SLICES = 14 };
 
 /* A call: each array with its length, as it is lent. */
 struct call {
@@ -45,7 +45,6 @@ static void lend(struct call *c, size_t n, size_t d, size_t fuels)
     c->amounts = fenced(CMM_AMOUNTS * sizeof *c->amounts);
     c->balances = fenced(CMM_BALANCES * sizeof *c->balances);
     c->at = fenced(2 * sizeof *c->at);
-    c->accounts = fenced(ACCOUNTS_MOST * sizeof *c->accounts);
 }
 
 /* Document 01's worked interval for every interval of every device, with as many of its fuel lines. Entries past the checks'
@@ -97,30 +96,6 @@ static void refused(const char *name, struct call c, uint64_t number, uint64_t d
     expect(untouched(c.accounts, CMM_ACCOUNTS * sizeof *c.accounts), name, "accounts as they were");
     expect(untouched(c.amounts, CMM_AMOUNTS * sizeof *c.amounts) && untouched(c.balances, CMM_BALANCES * sizeof *c.balances), name,
            "figures as they were");
-    expect(untouched(c.accounts, ACCOUNTS_MOST * sizeof *c.accounts), name, "accounts as they were");
-}
-
-/* Each device's account: ten counts that add to N, litres that add to the sheet's; no entry after the last device's. */
-static void accounted(const char *name, const struct call *c)
-{
-#ifdef ACCOUNTS
-    uint64_t methane = 0;
-    size_t d, k;
-    for (d = 0; d < c->devices; d++) {
-        const uint64_t *own = c->accounts + ACCOUNT * d;
-        uint64_t intervals = 0;
-        for (k = 0; k < 10; k++)
-            intervals += own[k];
-        expect(intervals == c->intervals, name, "ten counts");
-        expect(own[11] + own[12] == own[10], name, "each litre once");
-        methane += own[10];
-    }
-    expect(methane == c->amounts[CMM_METHANE_L], name, "every device's litres");
-    expect(untouched(c->accounts + ACCOUNT * d, (ACCOUNTS_MOST - ACCOUNT * d) * sizeof *c->accounts), name, "no other account");
-#else
-    (void)name;
-    (void)c;
-#endif
 }
 
 /* Each device's counts are those of its outcomes, its litres are destroyed or uncombusted, the sheet's litres are the sums, and

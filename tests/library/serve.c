@@ -65,9 +65,7 @@ static uint64_t quantify(const uint64_t *w, uint8_t *memory)
                         ARRAY(uint8_t, 25), w[26],  /* outcome */
                         ARRAY(uint16_t, 27), w[28], /* flow_used */
                         ARRAY(uint16_t, 29), w[30], /* content_used */
-#ifdef ACCOUNTS
-                        ARRAY(uint64_t, 34),
-#endif
+                        ARRAY(uint64_t, 34),        /* accounts */
                         ARRAY(uint64_t, 31), ARRAY(int64_t, 32), ARRAY(uint64_t, 33)); /* amounts, balances, at */
 }
 
