@@ -16,7 +16,8 @@ use Rattle.volume.specs.Volume.{methaneLitres, Inside}
 use Rattle.drainage_outcomes.specs.Outcomes.{outcomeKinds, counted, litresFor}
 use Rattle.balance.specs.Balance.{destroyedOf, uncombustedOf, fuelMg, reductionOf, reductionAll, baselineAll, carbonDioxideAll, uncombustedAll, tonnesOf, creditsOf, overDevices, Moderate, deviceMost}
 use Rattle.balance.proofs.Laws.{partition, partition-all, moderate}
-use Rattle.drainage_exact.specs.Exact.{Used, Possible, Fair, exactReduction, promised, reportedQ}
+use Rattle.drainage_exact.specs.Exact.{Used, Possible, exactReduction, promised, reportedQ}
+use Rattle.fractions.specs.Fair.{Fair}
 use Rattle.drainage_exact.proofs.Demand3.{countedOf, countedAll, demand-3-of}
 use Rattle.drainage_device.specs.Device.{Records, intervalsOf, outcomeAt, flowUsedAt, contentUsedAt, litresAt, methaneOf}
 use Rattle.drainage_device.proofs.Laws.{counted-inside, outcome-few, counts-add-up}

@@ -13,7 +13,8 @@ use Rattle.refusals.specs.Table.{toldOf, nothing}
 use Rattle.steps.specs.Step.{Tells}
 use Rattle.rows.specs.Rows.{pick, either, sumTo, countOf}
 use Rattle.drainage_outcomes.specs.Outcomes.{outcomeKinds, counted}
-use Rattle.drainage_exact.specs.Exact.{Used, Fair, exactReduction, promised}
+use Rattle.drainage_exact.specs.Exact.{Used, exactReduction, promised}
+use Rattle.fractions.specs.Fair.{Fair}
 use Rattle.drainage_judge.specs.Call.{Call}
 use Rattle.drainage_judge.specs.Order.{judged, stepsOf}
 use Rattle.figures.specs.declared.Figures.{Figures}

@@ -14,10 +14,11 @@ use Rattle.volume.specs.Volume.{litresOf, methaneOf, methaneLitres}
 use Rattle.balance.specs.Balance.{destroyedOf, uncombustedOf, baselineMg, carbonDioxideMg, uncombustedMg, fuelMg, baselineAll, carbonDioxideAll, uncombustedAll, reductionOf, reductionAll, tonnesOf}
 use Rattle.protocol.proofs.Integers.{is-sub}
 use Rattle.balance.proofs.Laws.{reduction-ext}
-use Rattle.drainage_exact.specs.Fraction.{Fraction, over, whole, _-ᶠ_, _*ᶠ_, sumᶠ}
-use Rattle.drainage_exact.specs.Exact.{Used, Possible, Fair, exactLitres, exactMethane, exactQ, exactDeviceMg, exactReduction, reportedQ, reportedTonnes, intervalMg, deviceMg, promised}
-use Rattle.drainage_exact.proofs.Near.{Near, near-all, near-minus, near-fair}
-use Rattle.drainage_exact.proofs.Close.{Close, close-row, close-interval}
+use Rattle.fractions.specs.Fraction.{Fraction, over, asFraction, _-ᶠ_, _*ᶠ_, sumᶠ}
+use Rattle.drainage_exact.specs.Exact.{Used, Possible, exactLitres, exactMethane, exactQ, exactDeviceMg, exactReduction, reportedQ, reportedTonnes, intervalMg, deviceMg, promised}
+use Rattle.fractions.specs.Fair.{Fair}
+use Rattle.fractions.proofs.Near.{Near, near-all, near-minus, near-fair}
+use Rattle.fractions.proofs.Close.{Close, close-row, close-interval}
 use Rattle.drainage_exact.proofs.Device.{Covers, device-near}
 
 -- ---- over loss, factor and grams
@@ -31,7 +32,7 @@ grams devices interval device i =
 module _ {u w interval device : ℕ} (v : Covers u w interval device) (devices : ℕ) (kind : ℕ → ℕ) (x : ℕ → Fraction) (q i : ℕ → ℕ) (fuel : ℕ)
     (close : (d : ℕ) → d < devices → Close u (x d) (q d) (i d)) where
   near : Near
-      (sumᶠ devices (λ d. exactDeviceMg w (kind d) (x d)) -ᶠ whole (pos fuel))
+      (sumᶠ devices (λ d. exactDeviceMg w (kind d) (x d)) -ᶠ asFraction (pos fuel))
       (sumTo devices (λ d. w * q d))
       (sumTo devices (λ d. carbonDioxideMg (destroyedOf (kind d) (q d))) + sumTo devices (λ d. w * uncombustedOf (kind d) (q d)) + fuel)
       (interval * sumTo devices i + device * devices)
@@ -45,13 +46,13 @@ module _ {u w interval device : ℕ} (v : Covers u w interval device) (devices :
       (λ d h. device-near v (kind d) (close d h)))))
     where
       whole-of : Fraction
-      whole-of = sumᶠ devices (λ d. exactDeviceMg w (kind d) (x d)) -ᶠ whole (pos fuel)
+      whole-of = sumᶠ devices (λ d. exactDeviceMg w (kind d) (x d)) -ᶠ asFraction (pos fuel)
 
       debit : ℕ
       debit = sumTo devices (λ d. carbonDioxideMg (destroyedOf (kind d) (q d))) + sumTo devices (λ d. w * uncombustedOf (kind d) (q d)) + fuel
 
   pub fair : Fair
-      (sumᶠ devices (λ d. exactDeviceMg w (kind d) (x d)) -ᶠ whole (pos fuel))
+      (sumᶠ devices (λ d. exactDeviceMg w (kind d) (x d)) -ᶠ asFraction (pos fuel))
       (tonnesOf (reductionOf
       (sumTo devices (λ d. w * q d))
       (sumTo devices (λ d. carbonDioxideMg (destroyedOf (kind d) (q d))) + sumTo devices (λ d. w * uncombustedOf (kind d) (q d)) + fuel)))

@@ -11,10 +11,10 @@ use Rattle.protocol.proofs.KindLaws.{thousandths-most}
 use Rattle.balance.specs.Balance.{destroyedOf, uncombustedOf, carbonDioxideMg}
 use Rattle.balance.proofs.Laws.{partition}
 use Rattle.protocol.proofs.Integers.{is-pos, is-minus, is-times}
-use Rattle.drainage_exact.specs.Fraction.{Fraction, over, whole}
+use Rattle.fractions.specs.Fraction.{Fraction, over, asFraction}
 use Rattle.drainage_exact.specs.Exact.{exactDestroyed, exactUncombusted, exactUnburntMg, exactCarbonMg, exactDeviceMg}
-use Rattle.drainage_exact.proofs.Near.{Near, near-is}
-use Rattle.drainage_exact.proofs.Close.{Close}
+use Rattle.fractions.proofs.Near.{Near, near-is}
+use Rattle.fractions.proofs.Close.{Close}
 
 -- The mg promised for an interval and for a device cover what is lost, where an interval loses at most 1 + 1/u litre and
 -- a litre unburnt is w mg: a litre destroyed saves w - 7,337/4 mg, which is `saves` quarters.

@@ -1,4 +1,2 @@
-pub mod Near
-pub mod Close
 pub mod Device
 pub mod Demand3

@@ -11,7 +11,7 @@ use Rattle.protocol.specs.Kinds.{thousandthsOf}
 use Rattle.protocol.specs.Ranges.{kelvinOf, contentMost}
 use Rattle.volume.specs.Volume.{litresOf, methaneOf, methaneLitres}
 use Rattle.balance.specs.Balance.{fuelMg, reductionOf, reductionAll, baselineAll, carbonDioxideAll, uncombustedAll, baselineMg, carbonDioxideMg, uncombustedMg, destroyedOf, uncombustedOf, tonnesOf, tonne}
-use Rattle.drainage_exact.specs.Fraction.{Fraction, Proper, over, whole, _-ᶠ_, _*ᶠ_, sumᶠ, _≤ᶠ_, _<ᶠ_}
+use Rattle.fractions.specs.Fraction.{Fraction, Proper, over, asFraction, _-ᶠ_, _*ᶠ_, sumᶠ, _≤ᶠ_, _<ᶠ_}
 
 -- The values used: of device d in interval k, whether the interval is counted, flow, CH4 content, temperature and
 -- pressure, in the units of rule 3.3; each device's kind; the fuel lines.
@@ -48,7 +48,7 @@ exactMethane flow content temp press = exactLitres flow temp press *ᶠ over con
 unfoldable pub exactQ : Used → ℕ → Fraction
 exactQ u d =
     sumᶠ (u .intervals) (λ k.
-    pick (u .counted d k) (exactMethane (u .flow d k) (u .content d k) (u .temp d k) (u .press d k)) (whole (pos 0)))
+    pick (u .counted d k) (exactMethane (u .flow d k) (u .content d k) (u .temp d k) (u .press d k)) (asFraction (pos 0)))
 
 -- rule 9.4 without its rounding
 unfoldable pub exactDestroyed : ℕ → Fraction → Fraction
@@ -61,7 +61,7 @@ exactUncombusted kind q = q *ᶠ over (1000 - thousandthsOf kind) 1000
 -- mg of so many litres of methane that are not burnt, at `unburnt` mg a litre. Of Q this is the baseline (rule 9.7),
 -- of the uncombusted litres it is uncombusted mg (rule 9.9).
 unfoldable pub exactUnburntMg : ℕ → Fraction → Fraction
-exactUnburntMg unburnt litres = whole (pos unburnt) *ᶠ litres
+exactUnburntMg unburnt litres = asFraction (pos unburnt) *ᶠ litres
 
 -- rule 9.8 without its rounding
 unfoldable pub exactCarbonMg : Fraction → Fraction
@@ -76,7 +76,7 @@ exactDeviceMg unburnt kind q =
 unfoldable pub exactReduction : Used → Fraction
 exactReduction u =
     sumᶠ (u .devices) (λ d. exactDeviceMg methaneMg (u .kind d) (exactQ u d))
-    -ᶠ whole (pos (fuelMg (u .fuels) (u .quantity) (u .factor)))
+    -ᶠ asFraction (pos (fuelMg (u .fuels) (u .quantity) (u .factor)))
 
 -- ---- reported
 
@@ -105,12 +105,6 @@ deviceMg = 13000
 unfoldable pub promised : ℕ → ℕ → ℕ
 promised counted devices = intervalMg * counted + deviceMg * devices
 
--- t tonnes are never above x mg (rule 10.3), and short of it by less than a tonne and the distance (rule 10.4)
-pub record Fair (x : Fraction) (t : ℤ) (distance : ℕ) : Type 0 where
-  pub proper : Proper x
-  pub never-above : whole (t *ℤ pos tonne) ≤ᶠ x
-  pub short : x <ᶠ whole (t *ℤ pos tonne +ℤ pos (tonne + distance))
-
 -- rule 14.1: one interval of an enclosed flare at standard conditions, 3,000 m3 of pure methane, and 700 kg of CO2 from
 -- fuel: 35,635,658,750 mg to the last digit (rule 14.3), 35 tonnes
 example : Used
@@ -129,11 +123,11 @@ example =
       factor = λ k. 700000;
     }
 
-example-least : whole (pos 35635658750) ≤ᶠ exactReduction example
+example-least : asFraction (pos 35635658750) ≤ᶠ exactReduction example
 unfolding example exactReduction exactDeviceMg exactUnburntMg exactCarbonMg exactDestroyed exactUncombusted exactQ exactMethane exactLitres fuelMg
 example-least = record { across = record { le = tt } }
 
-example-most : exactReduction example ≤ᶠ whole (pos 35635658750)
+example-most : exactReduction example ≤ᶠ asFraction (pos 35635658750)
 unfolding example exactReduction exactDeviceMg exactUnburntMg exactCarbonMg exactDestroyed exactUncombusted exactQ exactMethane exactLitres fuelMg
 example-most = record { across = record { le = tt } }
 

@@ -1,2 +1,1 @@
-pub mod Fraction
 pub mod Exact

@@ -18,8 +18,8 @@ abbrev pub over : ℕ → ℕ → Fraction
 over a b = record { num = pos a; den = b }
 
 -- a whole number
-abbrev pub whole : ℤ → Fraction
-whole z = record { num = z; den = 1 }
+abbrev pub asFraction : ℤ → Fraction
+asFraction z = record { num = z; den = 1 }
 
 infixl 6 _+ᶠ_ _-ᶠ_
 infixl 7 _*ᶠ_
@@ -35,7 +35,7 @@ x *ᶠ y = record { num = x .num *ℤ y .num; den = x .den * y .den }
 
 -- f 0 + f 1 + .. + f (n - 1)
 abbrev pub sumᶠ : ℕ → (ℕ → Fraction) → Fraction
-sumᶠ zero f = whole (pos 0)
+sumᶠ zero f = asFraction (pos 0)
 sumᶠ (suc n) f = sumᶠ n f +ᶠ f n
 
 -- rule 10.2: x is at most y, of two proper fractions
@@ -60,5 +60,5 @@ minus-third = refl
 not-above : record { num = negsuc 1; den = 6 } ≤ᶠ record { num = negsuc 0; den = 3 }
 not-above = record { across = record { le = tt } }
 
-below-zero : record { num = negsuc 1; den = 6 } <ᶠ whole (pos 0)
+below-zero : record { num = negsuc 1; den = 6 } <ᶠ asFraction (pos 0)
 below-zero = record { across = record { lt = tt } }

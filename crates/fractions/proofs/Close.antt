@@ -8,7 +8,7 @@ use native.Mathlib.Nat.{mul-le-mul-left, mul-le-mul-right, mul-pos, mul-div-le, 
 use native.Mathlib.Omega.{arith}
 use lib.IntN.{ℤ, pos, _+ℤ_, _*ℤ_}
 use Rattle.rows.specs.Rows.{sumTo, pick}
-use Rattle.drainage_exact.specs.Fraction.{Fraction, over, whole, _+ᶠ_, _*ᶠ_, sumᶠ}
+use Rattle.fractions.specs.Fraction.{Fraction, over, asFraction, _+ᶠ_, _*ᶠ_, sumᶠ}
 
 -- x is at least q, and above it by at most 1 + 1/u for each of n intervals
 pub record Close (u : ℕ) (x : Fraction) (q n : ℕ) : Type 0 where
@@ -18,7 +18,7 @@ pub record Close (u : ℕ) (x : Fraction) (q n : ℕ) : Type 0 where
   pub low : q * x .den ≤ top
   pub high : u * top ≤ (u * q + n * (1 + u)) * x .den
 
-pub close-zero : (u : ℕ) → Close u (whole (pos 0)) 0 0
+pub close-zero : (u : ℕ) → Close u (asFraction (pos 0)) 0 0
 close-zero u =
     record { top = 0; is-top = refl; above-zero = omega arith; low = omega arith; high = omega arith }
 
@@ -50,12 +50,12 @@ close-sum {u} {x} {y} {q} {p} {i} {j} c d =
 -- a whole row, an interval that is not counted being 0
 pub close-row : (u n : ℕ) (counted : ℕ → Bool) (x : ℕ → Fraction) (q : ℕ → ℕ)
     → ((k : ℕ) → k < n → counted k ≡ true → Close u (x k) (q k) 1)
-    → Close u (sumᶠ n (λ k. pick (counted k) (x k) (whole (pos 0)))) (sumTo n (λ k. pick (counted k) (q k) 0)) (sumTo n (λ k. pick (counted k) 1 0))
+    → Close u (sumᶠ n (λ k. pick (counted k) (x k) (asFraction (pos 0)))) (sumTo n (λ k. pick (counted k) (q k) 0)) (sumTo n (λ k. pick (counted k) 1 0))
 close-row u zero counted x q h = close-zero u
 close-row u (suc n) counted x q h =
     close-sum (close-row u n counted x q (λ k l. h k (le-step l))) (one (counted n) refl)
   where
-    one : (b : Bool) → counted n ≡ b → Close u (pick b (x n) (whole (pos 0))) (pick b (q n) 0) (pick b 1 0)
+    one : (b : Bool) → counted n ≡ b → Close u (pick b (x n) (asFraction (pos 0))) (pick b (q n) 0) (pick b 1 0)
     one true e = h n (lt-suc-self n) e
     one false e = close-zero u
 

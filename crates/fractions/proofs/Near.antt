@@ -9,8 +9,8 @@ use Rattle.rows.specs.Rows.{sumTo}
 use Rattle.balance.specs.Balance.{tonne, tonnesOf}
 use Rattle.protocol.proofs.Integers.{Is, Floor, above, below, is-self, is-pos, is-add, is-minus, is-times, is-le, is-lt}
 use Rattle.balance.proofs.Laws.{tonnes-floor}
-use Rattle.drainage_exact.specs.Fraction.{Fraction, whole, _+ᶠ_, _-ᶠ_, sumᶠ}
-use Rattle.drainage_exact.specs.Exact.{Fair}
+use Rattle.fractions.specs.Fraction.{Fraction, asFraction, _+ᶠ_, _-ᶠ_, sumᶠ}
+use Rattle.fractions.specs.Fair.{Fair}
 
 pub record Near (x : Fraction) (a b e : ℕ) : Type 0 where
   pub above-zero : 0 < x .den
@@ -45,7 +45,7 @@ near-sum {x} {y} {a} {b} {e} {c} {d} {f} p q =
     (across a b c d (x .den) (y .den) (below (x .num)) (above (x .num)) (below (y .num)) (above (y .num)) (p .low) (q .low))
     (across-up a b e c d f (x .den) (y .den) (below (x .num)) (above (x .num)) (below (y .num)) (above (y .num)) (p .high) (q .high))
 
-pub near-zero : Near (whole (pos 0)) 0 0 0
+pub near-zero : Near (asFraction (pos 0)) 0 0 0
 near-zero = record { above-zero = omega arith; low = omega arith; high = omega arith }
 
 pub near-all : (n : ℕ) (x : ℕ → Fraction) (a b e : ℕ → ℕ) → ((k : ℕ) → k < n → Near (x k) (a k) (b k) (e k))
@@ -60,9 +60,9 @@ minus-high : (a b e f n x y : ℕ) → y + b * n ≤ (a + e) * n + x → (y * 1 
 minus-high a b e f n x y h = omega arith
 
 -- less a whole number
-pub near-minus : {x : Fraction} {a b e : ℕ} (f : ℕ) → Near x a b e → Near (x -ᶠ whole (pos f)) a (b + f) e
+pub near-minus : {x : Fraction} {a b e : ℕ} (f : ℕ) → Near x a b e → Near (x -ᶠ asFraction (pos f)) a (b + f) e
 near-minus {x} {a} {b} {e} f p =
-    near-is (x -ᶠ whole (pos f)) _ _ (mul-pos (p .above-zero) (let h : 0 < 1 = omega arith in h))
+    near-is (x -ᶠ asFraction (pos f)) _ _ (mul-pos (p .above-zero) (let h : 0 < 1 = omega arith in h))
     (is-minus (x .num *ℤ pos 1) (pos f *ℤ pos (x .den)) (is-times (x .num) 1 (is-self (x .num))) (is-times (pos f) (x .den) (is-pos f)))
     (minus-low a b f (x .den) (below (x .num)) (above (x .num)) (p .low))
     (minus-high a b e f (x .den) (below (x .num)) (above (x .num)) (p .high))
