@@ -180,10 +180,10 @@ floor-most z t s k f h =
     let a = le-is (s *ℤ pos k) z (is-times s k (is-self s)) (is-self z) h in
     let b = mul-le-mul-right k l in
     let c = f .high in
-    clash (above s) (below s) (above t) (below t) k (above z) (below z) a b c)
+    apart (above s) (below s) (above t) (below t) k (above z) (below z) a b c)
   where
-    clash : (p m q n k a b : ℕ) → p * k + b ≤ a + m * k → suc (q + m) * k ≤ (p + n) * k → n * k + a < q * k + b + k → ⊥
-    clash p m q n k a b e f g = omega arith
+    apart : (p m q n k a b : ℕ) → p * k + b ≤ a + m * k → suc (q + m) * k ≤ (p + n) * k → n * k + a < q * k + b + k → ⊥
+    apart p m q n k a b e f g = omega arith
 
 pub tonnes-is : (z : ℤ) → IsTonnes z (tonnesOf z)
 unfolding tonnesOf

@@ -1,25 +1,24 @@
 -- From the verdict, the rows and the totals to what the call promises.
 -- Assumes nothing.
-use Prim.Native.Nat.{ℕ, zero, suc, _+_, _-_, _*_, _≤_, _<_}
+use Prim.Native.Nat.{ℕ, _+_, _-_, _*_, _≤_, _<_}
 use mathlib.Core.Path.{_≡_, refl, sym, ap, ap₂, _∙_, subst, subst₂}
 use mathlib.Core.Bool.{Bool, true, not}
-use native.Mathlib.Nat.{le-trans, lt-of-lt-of-le}
 use native.Mathlib.Omega.{arith}
 use lib.Dec.{eqb}
 use lib.IntN.{ℤ, pos}
-use lib.ListN.{length, getD}
+use lib.ListN.{getD}
 use Rattle.rows.specs.Rows.{pick, either, sumTo, countOf, hit}
-use Rattle.rows.proofs.Laws.{getD-join, getD-build, length-build, getD-cut, room}
+use Rattle.rows.proofs.Laws.{getD-join, getD-build, length-build, getD-cut}
 use Rattle.rows.proofs.Sums.{sumTo-ext, sumTo-add, sumTo-const}
 use Rattle.protocol.specs.Ranges.{kelvinOf, contentMost}
-use Rattle.volume.specs.Volume.{methaneLitres, Inside}
+use Rattle.volume.specs.Volume.{methaneLitres}
 use Rattle.drainage_outcomes.specs.Outcomes.{outcomeKinds, counted, litresFor}
-use Rattle.balance.specs.Balance.{destroyedOf, uncombustedOf, fuelMg, reductionOf, reductionAll, baselineAll, carbonDioxideAll, uncombustedAll, tonnesOf, creditsOf, overDevices, Moderate, deviceMost}
+use Rattle.balance.specs.Balance.{destroyedOf, uncombustedOf, reductionOf, reductionAll, tonnesOf, creditsOf, Moderate}
 use Rattle.balance.proofs.Laws.{partition, partition-all, moderate}
-use Rattle.drainage_exact.specs.Exact.{Used, Possible, exactReduction, promised, reportedQ}
+use Rattle.drainage_exact.specs.Exact.{Possible, exactReduction, promised, reportedQ}
 use Rattle.fractions.specs.Fair.{Fair}
 use Rattle.drainage_exact.proofs.Demand3.{countedOf, countedAll, demand-3-of}
-use Rattle.drainage_device.specs.Device.{Records, intervalsOf, outcomeAt, flowUsedAt, contentUsedAt, litresAt, methaneOf}
+use Rattle.drainage_device.specs.Device.{intervalsOf, outcomeAt, flowUsedAt, contentUsedAt, litresAt, methaneOf}
 use Rattle.drainage_device.proofs.Laws.{counted-inside, outcome-few, counts-add-up}
 use Rattle.drainage_devices.specs.Devices.{recordsOf, Results, resultsOf, outcomePart, flowPart, contentPart}
 use Rattle.drainage_devices.specs.Totals.{countIn, countedIn, replacedIn, excludedIn, kindIn, litresIn, totalsOf, AllWritten}

@@ -1,20 +1,18 @@
 -- What a clean verdict gives the devices' rows.
 -- Assumes nothing.
 use Prim.Native.Nat.{ℕ, _+_, _-_, _*_, _≤_, _<_}
-use mathlib.Core.Path.{_≡_, refl, sym, ap, _∙_, subst, subst₂}
-use mathlib.Core.Bool.{true}
+use mathlib.Core.Path.{_≡_, sym, ap, _∙_, subst, subst₂}
 use mathlib.Core.List.{List}
 use native.Mathlib.Nat.{add-sub-cancel-left}
 use native.Mathlib.Omega.{arith}
-use lib.IntN.{ℤ, pos}
 use lib.ListN.{length, getD}
 use Rattle.rows.specs.Rows.{cut}
-use Rattle.rows.proofs.Laws.{length-cut, getD-cut, room}
+use Rattle.rows.proofs.Laws.{length-cut, getD-cut}
 use Rattle.columns.specs.Series.{Long, InRange, rowOf, seriesPart}
 use Rattle.columns.proofs.Laws.{part-long, part-in-range, checks-part-long}
-use Rattle.drainage_drift.specs.Drift.{Ordered, Instrument}
-use Rattle.drainage_device.specs.Device.{Records, Right, instrumentOf, intervalsOf}
-use Rattle.drainage_devices.specs.Devices.{Lent, recordsOf, Sound}
+use Rattle.drainage_drift.specs.Drift.{Ordered}
+use Rattle.drainage_device.specs.Device.{Right, instrumentOf}
+use Rattle.drainage_devices.specs.Devices.{recordsOf, Sound}
 use Rattle.drainage_judge.specs.Call.{Call}
 use Rattle.drainage_judge.proofs.Unrefused.{Unrefused}
 use Rattle.drainage.specs.Sheet.{lentIn}

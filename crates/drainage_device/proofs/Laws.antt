@@ -1,20 +1,20 @@
 -- What the passes over a device's rows come to, in the words of specs/Device.antt.
 -- Assumes nothing.
-use Prim.Native.Nat.{ℕ, zero, suc, _+_, _-_, _*_, _≤_, _<_}
+use Prim.Native.Nat.{ℕ, _+_, _-_, _*_, _≤_, _<_}
 use mathlib.Core.Path.{_≡_, refl, sym, ap, ap₂, _∙_, subst}
-use mathlib.Core.Bool.{Bool, true, false, not}
-use mathlib.Core.List.{List, [], _∷_}
-use native.Mathlib.Nat.{le-trans, le-refl, mul-le-mul-right}
+use mathlib.Core.Bool.{Bool, true, false}
+use mathlib.Core.List.{List}
+use native.Mathlib.Nat.{le-trans, mul-le-mul-right}
 use native.Mathlib.Omega.{arith}
-use lib.Dec.{eqb, ltb, leb}
-use lib.IntN.{ℤ, pos}
+use lib.Dec.{eqb, leb}
+use lib.IntN.{pos}
 use lib.ListN.{length, getD}
-use borrow.Author.Tests.{le-ltb, lt-ltb, leb-true, eqb-true}
-use Rattle.rows.specs.Rows.{pick, both, either, build, sumTo, countOf, hit, cut}
+use borrow.Author.Tests.{le-ltb, lt-ltb, leb-true}
+use Rattle.rows.specs.Rows.{pick, both, either, build, sumTo, countOf, hit}
 use Rattle.rows.proofs.Laws.{length-build, getD-build, build-ext, getD-inside}
 use Rattle.rows.proofs.Sums.{sumTo-ext, counts-add}
-use Rattle.protocol.specs.Ranges.{mark, missing, flowMost, contentMost, flowRight, contentRight, tempMissing, pressMissing}
-use Rattle.drainage_drift.specs.Drift.{Instrument, correctedAt, Ordered}
+use Rattle.protocol.specs.Ranges.{mark, missing, flowMost, contentMost, tempMissing, pressMissing}
+use Rattle.drainage_drift.specs.Drift.{Instrument, correctedAt}
 use Rattle.drainage_drift.proofs.Laws.{at-bounded}
 use Rattle.drainage_runs.specs.Runs.{missingAt, tooLong, notWhole}
 use Rattle.drainage_runs.specs.Private.{excluding}
@@ -25,16 +25,13 @@ use Rattle.drainage_gaps.proofs.Laws.{Bounded, replacement-bounded}
 use Rattle.drainage_gaps.proofs.Filling.{filled-measured, filled-missing}
 use Rattle.volume.specs.Volume.{methaneLitres, litresMost, Inside}
 use Rattle.balance.specs.Balance.{destroyedOf, uncombustedOf, deviceMost}
-use Rattle.drainage_outcomes.specs.Outcomes.{outcomeKinds, outcomeOf, counted, usedFor, litresFor, heldOutcome, entryOf, entryAt, sumsOf, Held, Holds, Ready, ReadyAt, Finished}
-use Rattle.drainage_outcomes.specs.declared.Entry.{Entry}
+use Rattle.drainage_outcomes.specs.Outcomes.{outcomeKinds, outcomeOf, counted, usedFor, litresFor, heldOutcome, entryOf, entryAt, sumsOf, Held, Holds, ReadyAt, Finished}
 use Rattle.drainage_outcomes.specs.declared.Sums.{Sums}
 use Rattle.drainage_outcomes.proofs.Laws.{outcome-of-ten, methane-most, counted-used}
 use Rattle.balance.proofs.Laws.{partition}
 use Rattle.drainage_device.specs.Device.{Records, intervalsOf, instrumentOf, correctedFlow, correctedContent, replacedAs, outcomeAt, valueOf, valueAt, flowUsedAt, contentUsedAt, litresAt, methaneOf, accountOf, Low, Right, Filled}
 use Rattle.drainage_device.specs.declared.Account.{Account}
-
-clash : {X : Type 0} {b : Bool} → b ≡ true → b ≡ false → X
-clash p q = let z : _≡_ {A = ℕ} 0 1 = cc in absurd (let w : ⊥ = omega arith in w)
+use Rattle.rows.proofs.Truth.{clash}
 
 -- ---- one series
 

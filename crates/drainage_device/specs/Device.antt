@@ -2,10 +2,10 @@
 -- definition here takes that device's records only.
 -- Assumes nothing.
 use Prim.Native.Nat.{ℕ, _+_, _-_, _*_, _≤_, _<_}
-use mathlib.Core.Path.{_≡_, refl}
-use mathlib.Core.Bool.{Bool, true, false}
-use mathlib.Core.List.{List, [], _∷_}
-use lib.IntN.{ℤ, pos}
+use mathlib.Core.Path.{_≡_}
+use mathlib.Core.Bool.{false}
+use mathlib.Core.List.{List}
+use lib.IntN.{pos}
 use lib.ListN.{length, getD}
 use Rattle.rows.specs.Rows.{pick, either, build, sumTo, countOf, cut}
 use Rattle.protocol.specs.Ranges.{intervalsMost, checksMost, mark, tempMissing, pressMissing}
@@ -13,7 +13,7 @@ use Rattle.columns.specs.Series.{Series, Checks, Long, ChecksLong, InRange}
 use Rattle.drainage_drift.specs.Drift.{Instrument, correctedAt, Ordered}
 use Rattle.drainage_runs.specs.Runs.{missingAt}
 use Rattle.drainage_gaps.specs.Gaps.{Replaced, replacementAt}
-use Rattle.drainage_outcomes.specs.Outcomes.{outcomeKinds, outcomeOf, counted, usedFor, litresFor}
+use Rattle.drainage_outcomes.specs.Outcomes.{outcomeKinds, outcomeOf, usedFor, litresFor}
 use Rattle.balance.specs.Balance.{destroyedOf, uncombustedOf}
 use Rattle.drainage_device.specs.declared.Account.{Account}
 

@@ -1,18 +1,18 @@
 -- Laws of the sums over devices and of each device's part of the rows.
 -- Assumes nothing.
-use Prim.Native.Nat.{ℕ, zero, suc, _+_, _-_, _*_, _≤_, _<_}
-use mathlib.Core.Path.{_≡_, refl, sym, ap, ap₂, _∙_, subst}
+use Prim.Native.Nat.{ℕ, suc, _+_, _-_, _*_, _≤_, _<_}
+use mathlib.Core.Path.{_≡_, sym, ap, ap₂, _∙_, subst}
 use mathlib.Core.Bool.{Bool, true, false}
 use mathlib.Core.List.{List, [], _∷_}
-use native.Mathlib.Nat.{le-trans, le-refl, le-step, mul-le-mul-right, mul-le-mul, add-sub-cancel-left, lt-of-not-le, mul-comm}
+use native.Mathlib.Nat.{le-trans, mul-le-mul, add-sub-cancel-left, lt-of-not-le}
 use native.Mathlib.Decide.{decLe}
 use native.Mathlib.Omega.{arith}
 use lib.Dec.{eqb}
 use mir.Syntax.{w64}
 use mir.Val.{Fits}
 use lib.ListN.{length, getD, length-append, List·getD-eq-default}
-use Rattle.rows.specs.Rows.{pick, build, sumTo, countOf, hit, cut, put, join}
-use Rattle.rows.proofs.Laws.{length-build, getD-build, length-cut, room, length-put}
+use Rattle.rows.specs.Rows.{pick, build, sumTo, countOf, hit, put}
+use Rattle.rows.proofs.Laws.{length-build, getD-build, room, length-put}
 use Rattle.rows.proofs.Sums.{sumTo-bound, sumTo-ext}
 use Rattle.columns.specs.Series.{rowOf}
 use Rattle.columns.proofs.Laws as Series

@@ -1,13 +1,13 @@
 -- The loop over devices: rows joined up to device d, the rest as it was, and the totals up to there.
 -- Assumes nothing.
-use Prim.Native.Nat.{ℕ, zero, suc, _+_, _-_, _*_, _≤_, _<_}
+use Prim.Native.Nat.{ℕ, _+_, _-_, _*_, _≤_, _<_}
 use mathlib.Core.Path.{_≡_, refl, sym, ap, _∙_, subst, subst₂}
-use mathlib.Core.List.{List, [], _++_}
+use mathlib.Core.List.{List, _++_}
 use native.Mathlib.Nat.{add-sub-cancel-left, zero-mul, le-add-right}
 use native.Mathlib.Numerals.{add-one}
 use native.Mathlib.Omega.{arith}
 use lib.ListN.{length, drop}
-use Rattle.rows.specs.Rows.{build, join, put}
+use Rattle.rows.specs.Rows.{join, put}
 use Rattle.rows.proofs.Laws.{length-build, join-step, join-done, length-put, room}
 use Rattle.protocol.specs.Ranges.{devicesMost}
 use Rattle.drainage_outcomes.specs.Outcomes.{outcomeKinds}

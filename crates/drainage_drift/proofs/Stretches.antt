@@ -20,6 +20,7 @@ use Rattle.protocol.specs.Ranges.{raised, missing, mark}
 use Rattle.drainage_drift.specs.Drift.{Instrument, positionOf, driftOf, passes, Ordered, PassedAt, Stretch, FailedIn, Greatest, Becomes, Corrected}
 use Rattle.drainage_drift.specs.Drift.{corrected, parts, together, excess, maxTo, stretchDrift, correctedAt}
 use Rattle.drainage_drift.proofs.Laws.{maxTo-ext, maxTo-most, maxTo-met, excess-passed, pick-zero, corrected-none, at-missing, at-measured}
+use Rattle.rows.proofs.Truth.{clash}
 
 -- by how much a check of the stretch from s to t reads high
 abbrev pub excessIn : Instrument → ℕ → ℕ → ℕ → ℕ
@@ -46,9 +47,6 @@ parts-none p q i f g =
 -- an order from the absurdity of its contrary
 lt-unless : (a b : ℕ) → (b ≤ a → ⊥) → a < b
 lt-unless a b f = elim (decLe b a) [ yes h ↦ absurd (f h) | no n ↦ lt-of-not-le n ]
-
-pub clash : {X : Type 0} {b : Bool} → b ≡ true → b ≡ false → X
-clash p q = let z : _≡_ {A = ℕ} 0 1 = cc in absurd (let w : ⊥ = omega arith in w)
 
 -- ---- a stretch and the checks
 

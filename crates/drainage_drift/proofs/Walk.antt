@@ -24,7 +24,8 @@ use Rattle.protocol.specs.Ranges.{raised}
 use Rattle.drainage_drift.specs.Drift.{Instrument, within, positionOf, driftOf, passes, excess, maxTo, stretchDrift, keptOr, correctedAt, Ordered}
 use Rattle.drainage_drift.specs.Drift.{PassedAt}
 use Rattle.drainage_drift.proofs.Laws.{maxTo-cut, maxTo-zero, excess-passed, pick-zero}
-use Rattle.drainage_drift.proofs.Stretches.{excessIn, stretch-drift, clash}
+use Rattle.drainage_drift.proofs.Stretches.{excessIn, stretch-drift}
+use Rattle.rows.proofs.Truth.{clash}
 
 both-true : (a : Bool) → both a true ≡ a
 both-true true = refl

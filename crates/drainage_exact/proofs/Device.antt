@@ -1,7 +1,7 @@
 -- One device: its exact reduction is a multiple of its exact Q, so that what destroyed, CO2 and uncombusted lose is
 -- bounded together and not apart. Over an interval's loss, the factor of unburnt methane and the grams as parameters.
 -- Assumes nothing.
-use Prim.Native.Nat.{ℕ, _+_, _-_, _*_, _/_, _≤_, _<_}
+use Prim.Native.Nat.{ℕ, _+_, _-_, _*_, _≤_, _<_}
 use mathlib.Core.Path.{_≡_, sym, ap, subst}
 use native.Mathlib.Nat.{mul-le-mul-left, mul-pos, le-of-mul-le-mul-left, le-refl, le-trans, add-le-add, mul-add}
 use native.Mathlib.Omega.{arith}
@@ -11,7 +11,7 @@ use Rattle.protocol.proofs.KindLaws.{thousandths-most}
 use Rattle.balance.specs.Balance.{destroyedOf, uncombustedOf, carbonDioxideMg}
 use Rattle.balance.proofs.Laws.{partition}
 use Rattle.protocol.proofs.Integers.{is-pos, is-minus, is-times}
-use Rattle.fractions.specs.Fraction.{Fraction, over, asFraction}
+use Rattle.fractions.specs.Fraction.{Fraction, over}
 use Rattle.drainage_exact.specs.Exact.{exactDestroyed, exactUncombusted, exactUnburntMg, exactCarbonMg, exactDeviceMg}
 use Rattle.fractions.proofs.Near.{Near, near-is}
 use Rattle.fractions.proofs.Close.{Close}

@@ -1,17 +1,17 @@
 -- The exact reduction (rule 10.1), beside what is reported of the same values, and the distance that may lie between
 -- the two (rules 10.3 and 10.4).
 -- Assumes nothing.
-use Prim.Native.Nat.{ℕ, zero, _+_, _-_, _*_, _≤_, _<_}
+use Prim.Native.Nat.{ℕ, _+_, _-_, _*_, _≤_, _<_}
 use mathlib.Core.Path.{_≡_, refl}
 use mathlib.Core.Bool.{Bool, true}
-use lib.IntN.{ℤ, pos, _+ℤ_, _*ℤ_}
+use lib.IntN.{ℤ, pos}
 use Rattle.rows.specs.Rows.{sumTo, pick}
 use Rattle.protocol.specs.Numbers.{protocol, methaneMg, carbonMg}
 use Rattle.protocol.specs.Kinds.{thousandthsOf}
 use Rattle.protocol.specs.Ranges.{kelvinOf, contentMost}
 use Rattle.volume.specs.Volume.{litresOf, methaneOf, methaneLitres}
-use Rattle.balance.specs.Balance.{fuelMg, reductionOf, reductionAll, baselineAll, carbonDioxideAll, uncombustedAll, baselineMg, carbonDioxideMg, uncombustedMg, destroyedOf, uncombustedOf, tonnesOf, tonne}
-use Rattle.fractions.specs.Fraction.{Fraction, Proper, over, asFraction, _-ᶠ_, _*ᶠ_, sumᶠ, _≤ᶠ_, _<ᶠ_}
+use Rattle.balance.specs.Balance.{fuelMg, reductionOf, reductionAll, baselineAll, carbonDioxideAll, uncombustedAll, baselineMg, carbonDioxideMg, uncombustedMg, destroyedOf, uncombustedOf, tonnesOf}
+use Rattle.fractions.specs.Fraction.{Fraction, over, asFraction, _-ᶠ_, _*ᶠ_, sumᶠ, _≤ᶠ_}
 
 -- The values used: of device d in interval k, whether the interval is counted, flow, CH4 content, temperature and
 -- pressure, in the units of rule 3.3; each device's kind; the fuel lines.

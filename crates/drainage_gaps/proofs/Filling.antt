@@ -20,6 +20,7 @@ use Rattle.drainage_runs.proofs.Laws.{start-zero, start-new, of-gap, end-most, 
 use Rattle.drainage_gaps.specs.Gaps.{replacementOf, replacementAt}
 use Rattle.drainage_gaps.specs.Private.{heldFor, filledAt, Goes}
 use Rattle.drainage_gaps.proofs.Laws.{Agree, same-replacement}
+use Rattle.rows.proofs.Truth.{clash}
 
 pub record Filling (reading corrected used : List ℕ) (i : ℕ) : Type 0 where
   pub within : i ≤ length reading
@@ -27,9 +28,6 @@ pub record Filling (reading corrected used : List ℕ) (i : ℕ) : Type 0 where
   pub goes : Goes reading corrected flowMost
   pub fresh : i < length reading → missingAt reading i ≡ true → gapStart reading i ≡ i
   pub filled : used ≡ build i (filledAt reading corrected) ++ drop i corrected
-
-clash : {X : Type 0} {b : Bool} → b ≡ true → b ≡ false → X
-clash p q = let z : _≡_ {A = ℕ} 0 1 = cc in absurd (let w : ⊥ = omega arith in w)
 
 pub filled-measured : (reading corrected : List ℕ) (i : ℕ) → missingAt reading i ≡ false → filledAt reading corrected i ≡ getD corrected i mark
 unfolding filledAt

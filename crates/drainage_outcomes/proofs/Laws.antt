@@ -20,9 +20,7 @@ use Rattle.drainage_runs.specs.Runs.{tooLong, notWhole}
 use Rattle.drainage_runs.specs.Private.{excluding}
 use Rattle.drainage_outcomes.specs.declared.Sums.{Sums}
 use Rattle.drainage_outcomes.specs.Outcomes.{outcomeKinds, outcomeOf, allMeasured, counted, litresFor, heldOutcome, entryOf, entryAt, sumsOf, Held, Holds, Ready, ReadyAt, Finished}
-
-clash : {X : Type 0} {b : Bool} → b ≡ true → b ≡ false → X
-clash p q = let z : _≡_ {A = ℕ} 0 1 = cc in absurd (let w : ⊥ = omega arith in w)
+use Rattle.rows.proofs.Truth.{clash}
 
 -- ---- one interval
 

@@ -2,12 +2,12 @@
 -- every m above the length of the longest record. Assumes nothing.
 use Prim.Native.Nat.{ℕ, _+_, _*_, _≤_, _<_}
 use mathlib.Core.Path.{_≡_, sym, ap, _∙_, subst}
-use mathlib.Core.List.{List, [], _++_, append-nil}
+use mathlib.Core.List.{List, [], _++_}
 use native.Mathlib.Omega.{arith}
 use native.Mathlib.Nat.{le-trans}
 use lib.IntN.{pos}
 use lib.ListN.{length, take, length-append, length-take}
-use lib.Seq.{take-all, take-length, take-take}
+use lib.Seq.{take-all, take-take}
 use Rattle.drainage_record_form.specs.Field as Field
 use Rattle.drainage_record_form.specs.Field.{lineText}
 use Rattle.drainage_record_form.specs.Plan.{Line, textOf}

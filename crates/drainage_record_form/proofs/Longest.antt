@@ -1,15 +1,14 @@
 -- How long a record file can get: the longest text of each line, then of each part of the plan. Assumes nothing.
 use Prim.Native.Nat.{ℕ, zero, suc, _+_, _*_, _≤_, _<_}
-use mathlib.Core.Path.{_≡_, refl, sym, ap, _∙_, subst}
+use mathlib.Core.Path.{_≡_, refl, sym, ap, subst}
 use mathlib.Core.Bool.{Bool, true, false}
-use mathlib.Core.List.{List, [], _∷_, _++_, append-assoc}
+use mathlib.Core.List.{List, [], _∷_, _++_}
 use native.Mathlib.Omega.{arith}
 use native.Mathlib.Nat.{mul-le-mul-right, le-trans}
 use lib.Dec.{leb}
 use borrow.Author.Tests.{leb-true}
 use lib.IntN.{ℤ, pos, negsuc}
-use lib.ListN.{length, take, length-append}
-use lib.Seq.{take-append-seam, take-take}
+use lib.ListN.{length, length-append}
 use Rattle.rows.specs.Rows.{pick}
 use Rattle.rows.proofs.Laws.{both-true}
 use Rattle.protocol.specs.Ranges.{fromOne, intervalsMost, devicesMost, checksMost, deviceChecks, fuelsMost}

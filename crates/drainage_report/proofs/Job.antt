@@ -1,14 +1,14 @@
 -- The whole job from what its parts promise: the reader's answer, quantification's, and what was written. Assumes nothing.
-use Prim.Native.Nat.{ℕ, _+_, _*_, _≤_, _<_}
+use Prim.Native.Nat.{ℕ, _*_, _≤_, _<_}
 use mathlib.Core.Path.{_≡_, refl, sym, ap, _∙_, subst}
 use mathlib.Core.Bool.{Bool, true, false}
 use mathlib.Core.List.{List, [], _∷_}
 use native.Mathlib.Omega.{arith}
 use lib.Dec.{leb}
 use lib.IntN.{ℤ, pos}
-use lib.ListN.{length, take, replicate, length-replicate}
+use lib.ListN.{length, take, length-replicate}
 use denote.Enum.Declared.{tagOf}
-use borrow.Author.Tests.{leb-true, leb-false}
+use borrow.Author.Tests.{leb-true}
 use Rattle.rows.specs.Rows.{pick}
 use Rattle.protocol.specs.Ranges.{intervalsMost, devicesMost, deviceChecks, fuelsMost}
 use Rattle.text.specs.Answer.{Leads}
@@ -29,14 +29,13 @@ use Rattle.drainage_record_form.specs.Field.{Field}
 use Rattle.drainage_record_form.specs.Plan.{Line, lineIs}
 use Rattle.drainage_record_form.specs.Rows.{Rows, withSeries, store, stored, roomOf, lesser}
 use Rattle.drainage_record_form.specs.File.{Record, Fine, file}
-use Rattle.drainage_record_form.proofs.Parts.{withHead}
 use Rattle.drainage_record_form.proofs.Covered.{SameLong, covered, stored-long}
 use Rattle.drainage_record.specs.Read.{toldIn, ReadRight, RecordRead, Outside, NoRoom, Wrong, Refused}
 use Rattle.drainage_record.specs.declared.Header.{Header}
 use Rattle.drainage_record.specs.declared.ReadAnswer.{ReadAnswer}
 use Rattle.drainage_record.specs.declared.ReadAnswer.the-variants as ReadAnswer
 use Rattle.drainage_record.proofs.ReadAnswer as ReadAnswerType
-use Rattle.drainage_report.specs.Quantified.{Roomy, ResultRows, Quantified, partOf, partsOf, partsAfter, callOf, answerTo, resultsAfter}
+use Rattle.drainage_report.specs.Quantified.{Roomy, ResultRows, Quantified, partsOf, partsAfter, callOf, answerTo}
 use Rattle.drainage_report.specs.Report.{refusalText, printed, Lent, readerRows, outputOf, resultsOf, AsLong, Whatever, Reported}
 use Rattle.drainage_report.proofs.Laws.{lesser-first}
 

@@ -5,7 +5,7 @@ use mathlib.Core.Bool.{Bool, true, false}
 use mathlib.Core.List.{List, _++_, append-assoc}
 use native.Mathlib.Omega.{arith}
 use lib.Dec.{leb}
-use lib.IntN.{ℤ, pos}
+use lib.IntN.{pos}
 use borrow.Author.Tests.{leb-false}
 use Rattle.rows.specs.Rows.{pick}
 use lib.ListN.{length, take, drop, length-append, take-append-drop, replicate}
@@ -15,7 +15,7 @@ use Rattle.text.specs.Line.{lineOf}
 use Rattle.text.specs.Answer.{Put, Leads}
 use Rattle.text.proofs.Decimals.{dec-20}
 use Rattle.text.proofs.Writing.{put-join, put-leads, line-length}
-use Rattle.sheet_text.specs.Sheet.{textOf, sheetMost}
+use Rattle.sheet_text.specs.Sheet.{sheetMost}
 use Rattle.sheet_text.specs.Write as Write
 use Rattle.sheet_text.specs.Write.{WriteRight}
 use Rattle.sheet_text.specs.declared.WriteAnswer.{WriteAnswer}
@@ -37,7 +37,7 @@ use Rattle.drainage_devices.specs.Devices.{Results, accountSize}
 use Rattle.drainage.specs.Promise.{Settled, answerBy, resultsBy}
 use Rattle.drainage_record_form.specs.Rows.{Rows, lesser}
 use Rattle.drainage_record.specs.declared.Header.{Header}
-use Rattle.drainage_report.specs.Quantified.{ResultRows, Quantified, partOf, partsOf, putBack, callOf, answerTo, partsAfter, resultsAfter}
+use Rattle.drainage_report.specs.Quantified.{ResultRows, Quantified, partOf, partsOf, putBack, callOf, answerTo, partsAfter}
 use Rattle.drainage_report.specs.Report.{refusalText, printed}
 
 -- No line with a number of 64 bits is longer than its key and 21 bytes.

@@ -1,14 +1,12 @@
 -- The promise settles the output and every lent entry, and a text longer than any record file is answered by its beginning.
 -- Assumes nothing.
 use Prim.Native.Nat.{ℕ, _+_, _*_, _<_}
-use mathlib.Core.Path.{_≡_, refl, sym, ap, _∙_, subst}
+use mathlib.Core.Path.{_≡_, sym, ap, _∙_, subst}
 use mathlib.Core.List.{List, _++_}
 use native.Mathlib.Omega.{arith}
-use lib.ListN.{length, take, drop}
+use lib.ListN.{take, drop}
 use Rattle.text.specs.Answer.{Leads}
-use Rattle.drainage_record_form.specs.Rows.{Rows, roomOf, lesser}
-use Rattle.drainage_record.specs.Read.{ReadRight}
-use Rattle.drainage_record.specs.declared.ReadAnswer.{ReadAnswer}
+use Rattle.drainage_record_form.specs.Rows.{roomOf}
 use Rattle.drainage_record.proofs.Beginning.{read-cut}
 use Rattle.drainage_record.proofs.Settled.{read-once}
 use Rattle.drainage_report.specs.Report.{Lent, readerRows, outputOf, resultsOf, AsLong, Whatever, Reported}

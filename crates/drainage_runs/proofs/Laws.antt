@@ -17,9 +17,7 @@ use Rattle.rows.specs.Rows.{pick, both, every}
 use Rattle.rows.proofs.Laws.{every-at, every-all, both-true, getD-inside}
 use Rattle.protocol.specs.Ranges.{missing, mark}
 use Rattle.drainage_runs.specs.Runs.{missingAt, measuredAt, gapStart, gapEnd, run, usable, whole, IsGap, WindowsWhole}
-
-clash : {X : Type 0} {b : Bool} → b ≡ true → b ≡ false → X
-clash p q = let z : _≡_ {A = ℕ} 0 1 = cc in absurd (let w : ⊥ = omega arith in w)
+use Rattle.rows.proofs.Truth.{clash}
 
 -- ---- the code's test of a reading
 

@@ -14,9 +14,7 @@ use Rattle.rows.specs.Rows.{both, every}
 use Rattle.rows.proofs.Laws.{every-all, every-fails}
 use Rattle.drainage_runs.specs.Runs.{measuredAt, usable, whole}
 use Rattle.drainage_runs.proofs.Laws.{whole-before, whole-after}
-
-clash : {X : Type 0} {b : Bool} → b ≡ true → b ≡ false → X
-clash p q = let z : _≡_ {A = ℕ} 0 1 = cc in absurd (let w : ⊥ = omega arith in w)
+use Rattle.rows.proofs.Truth.{clash}
 
 -- ---- a test over the indices from 0, one more
 

@@ -21,6 +21,7 @@ use Rattle.protocol.proofs.Integers.{Is, is-pos, is-minus, is-times, is-same, i
 use Rattle.drainage_window.specs.declared.Tally.{Tally}
 use Rattle.drainage_window.specs.Window.{tallyOf, meanOf, spreadOf, allowedOf, Meets, IsLimit, meets, greatestUpTo, limitOf}
 use Rattle.drainage_window.specs.Sizes.{Low, Windows, Sized}
+use Rattle.rows.proofs.Truth.{clash}
 
 -- ---- sums of values that are at most so much
 
@@ -165,9 +166,6 @@ meets-met t z L c =
 
 pub meets-false : (t : Tally) (z L : ℕ) → meets t z L ≡ false → Meets t z L → ⊥
 meets-false t z L e m = clash (meets-met t z L m) e
-  where
-    clash : {b : Bool} → b ≡ true → b ≡ false → ⊥
-    clash p q = let z : _≡_ {A = ℕ} 0 1 = cc in omega arith
 
 -- the test, once it is known whether S is at least nL
 pub meets-short : (t : Tally) (z L : ℕ) → t .sum < t .n * L → false ≡ meets t z L

@@ -6,7 +6,7 @@ use mathlib.Core.Bool.{Bool, cond}
 use native.Mathlib.Nat.{lt-of-not-le, mul-div-le, lt-mul-div-succ}
 use native.Mathlib.Decide.{decLe}
 use native.Mathlib.Omega.{arith}
-use lib.Dec.{leb, ltb, leb→le, le→leb, lt→ltb}
+use lib.Dec.{leb→le, le→leb, lt→ltb}
 use lib.IntN.{ℤ, pos, negsuc, negℤ, subℕ, _+ℤ_, _-ℤ_, _*ℤ_}
 use lib.Signed.{_≤ℤ_, _<ℤ_, shrZ, mag}
 use borrow.Author.Tests.{lt-ltb, le-ltb}

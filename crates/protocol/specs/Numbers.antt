@@ -1,7 +1,7 @@
 -- rule 2.1: the protocol's numbers under one name, the one place of the specifications that has them.
 -- `in_force` of src/lib.rt is proved to give the same ones, from the code's constants.
 -- Assumes nothing.
-use Prim.Native.Nat.{ℕ, _*_, _/_}
+use Prim.Native.Nat.{ℕ, _*_}
 use mathlib.Core.Path.{_≡_, refl}
 use Rattle.protocol.specs.declared.Numbers.{Numbers}
 

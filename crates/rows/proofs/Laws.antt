@@ -1,17 +1,17 @@
 -- Laws of rows: built, joined, cut and put back; the first offender.
 -- Assumes nothing.
-use Prim.Native.Nat.{ℕ, zero, suc, _+_, _*_, _-_, _≤_, _<_, min}
+use Prim.Native.Nat.{ℕ, zero, suc, _+_, _*_, _-_, _≤_, _<_}
 use mathlib.Core.Path.{_≡_, refl, sym, ap, ap₂, _∙_, subst}
-use mathlib.Core.Bool.{Bool, true, false, not}
+use mathlib.Core.Bool.{Bool, true, false}
 use mathlib.Core.Logic.{_⊎_, ⊎-elim}
 use mathlib.Core.List.{List, [], _∷_, _++_, append-assoc, append-nil}
-use native.Mathlib.Nat.{le-refl, le-step, lt-suc-self, suc-mul, zero-mul, not-suc-le-zero, le-of-suc-le-suc, eq-or-lt-of-le, mul-le-mul-right, le-antisymm, lt-irrefl, add-sub-cancel-left, le-add-right, zero-add, lt-of-not-le}
+use native.Mathlib.Nat.{le-refl, le-step, lt-suc-self, suc-mul, zero-mul, not-suc-le-zero, le-of-suc-le-suc, eq-or-lt-of-le, mul-le-mul-right, le-antisymm, lt-irrefl, add-sub-cancel-left, lt-of-not-le}
 use native.Mathlib.Numerals.{add-one}
 use native.Mathlib.Decide.{decLe}
 use native.Mathlib.Omega.{arith}
 use lib.Dec.{eqb}
-use lib.ListN.{length, take, drop, getD, set, length-append, length-take, length-drop, List·getD-append, take-append-drop}
-use lib.Seq.{take-at, drop-at, getD-append-seam, getD-append-add, getD-at, set-at, drop-cons, drop-drop, drop-append-add, take-length, drop-length, take-append-add, ext-getD, take-append-le}
+use lib.ListN.{length, take, drop, getD, set, length-append, length-take, length-drop, List·getD-append}
+use lib.Seq.{take-at, drop-at, getD-append-add, getD-at, set-at, drop-cons, drop-drop, drop-length, ext-getD}
 use borrow.Author.Tests.{eq-eqb, ne-eqb}
 use Rattle.rows.proofs.Truth.{clash}
 use Rattle.rows.specs.Rows.{pick, both, build, join, cut, put, every, first, FirstOf}

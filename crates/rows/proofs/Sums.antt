@@ -2,11 +2,10 @@
 -- Assumes nothing.
 use Prim.Native.Nat.{ℕ, zero, suc, _+_, _*_, _≤_, _<_}
 use mathlib.Core.Path.{_≡_, refl, sym, ap, ap₂, _∙_, subst}
-use mathlib.Core.Bool.{Bool, true, false}
-use native.Mathlib.Nat.{le-refl, le-step, lt-suc-self, add-suc, add-zero, mul-add, mul-zero, zero-mul, suc-mul, not-suc-le-zero, le-of-suc-le-suc, add-le-add, eq-or-lt-of-le}
+use mathlib.Core.Bool.{Bool}
+use native.Mathlib.Nat.{le-refl, le-step, lt-suc-self, mul-add, mul-zero, zero-mul, suc-mul, not-suc-le-zero, le-of-suc-le-suc, add-le-add, eq-or-lt-of-le}
 use native.Mathlib.Omega.{arith}
 use mathlib.Core.Logic.{_⊎_, ⊎-elim}
-use lib.Dec.{eqb}
 use borrow.Author.Tests.{eq-eqb, ne-eqb}
 use Rattle.rows.specs.Rows.{sumTo, countOf, hit, pick}
 

@@ -1,11 +1,11 @@
 -- The sheet's laws: the answers of both calls are settled by their contracts for every input, the buffer included; two sheets
 -- with the same text are equal; and reading what was written gives the same figures. Assumes nothing.
-use Prim.Native.Nat.{ℕ, _≤_, _<_}
-use mathlib.Core.Path.{_≡_, refl, sym, ap, _∙_, subst}
+use Prim.Native.Nat.{ℕ}
+use mathlib.Core.Path.{_≡_, refl, sym, ap, _∙_}
 use mathlib.Core.List.{List, _++_}
 use mathlib.Core.Logic.{_↔_}
 use native.Mathlib.Omega.{arith}
-use lib.ListN.{length, getD, take, drop}
+use lib.ListN.{getD, take, drop}
 use lib.Seq.{take-at}
 use lib.IntN.{ℤ, pos}
 use Rattle.text.specs.Form.{RefusedAt}

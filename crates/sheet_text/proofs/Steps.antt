@@ -1,7 +1,7 @@
 -- The sheet line by line, over its table: the laws of `text` at the table `schema`, whatever the line. Assumes nothing.
 use Prim.Native.Nat.{ℕ, zero, suc, _+_, _^_, _≤_, _<_}
 use mathlib.Core.Path.{_≡_, refl, sym, ap, _∙_, subst}
-use mathlib.Core.List.{List, [], _∷_, _++_, map}
+use mathlib.Core.List.{List, [], _∷_, _++_}
 use native.Mathlib.Omega.{arith}
 use denote.Enum.Declared.{tagOf}
 use lib.ListN.{length, getD, take, drop, length-append}
@@ -14,7 +14,7 @@ use Rattle.text.specs.declared.Natural.{Natural}
 use Rattle.text.specs.declared.Natural.the-variants as Natural
 use Rattle.text.specs.declared.Signed.{Signed}
 use Rattle.text.specs.declared.Signed.the-variants as Signed
-use Rattle.text.specs.Form.{Form, Of, ReadAs, Broken, RefusedAt}
+use Rattle.text.specs.Form.{Of, ReadAs, Broken, RefusedAt}
 use Rattle.text.specs.Decimal.{Range, Fit, plain}
 use Rattle.text.specs.Line.{Entry, lineOf, line, linesOf, AllFit, lines}
 use Rattle.text.specs.Answer.{Put, NaturalIn, SignedIn, wrongAt, signedWrongAt, AskedSigned}
@@ -23,7 +23,7 @@ use Rattle.text.proofs.Signed as SignedType
 use Rattle.text.proofs.Forms.{refused-alike}
 use Rattle.text.proofs.Lines.{natural-read, signed-read, natural-wrong, signed-wrong}
 use Rattle.text.proofs.Writing.{put-leads}
-use Rattle.text.proofs.Tables.{lines-read, lines-broken, lines-past, lines-all, lines-put, lines-append, lines-longest, lines-snoc, Wide, longest}
+use Rattle.text.proofs.Tables.{lines-read, lines-broken, lines-past, lines-all, lines-put, lines-longest, lines-snoc, Wide, longest}
 use Rattle.figures.specs.declared.Figures.{Figures}
 use Rattle.sheet_text.specs.Sheet.{schema, valuesOf, textOf, sheetMost, InRange, IsSheet, unsigned64, signed64}
 use Rattle.sheet_text.specs.Read.{SheetOf}

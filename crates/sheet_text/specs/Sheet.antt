@@ -2,12 +2,11 @@
 -- A line more is one entry more here and one value more below.
 use Prim.Native.Nat.{ℕ}
 use Prim.Native.String.{String}
-use mathlib.Core.Path.{_≡_, refl}
 use mathlib.Core.List.{List, [], _∷_}
 use lib.IntN.{ℤ, pos}
 use Rattle.text.specs.Bytes.{bytes}
 use Rattle.text.specs.Form.{Form, Of}
-use Rattle.text.specs.Decimal.{Range, plain, signed, dec}
+use Rattle.text.specs.Decimal.{Range, plain, signed}
 use Rattle.text.specs.Line.{Entry, linesOf, AllFit}
 use Rattle.figures.specs.declared.Figures.{Figures}
 

@@ -1,12 +1,12 @@
 -- The laws of forms and of refusals: in a form whose texts do not begin one another, what is read and where a text breaks
 -- is settled. Assumes nothing.
-use Prim.Native.Nat.{ℕ, zero, suc, _+_, _-_, _≤_, _<_}
+use Prim.Native.Nat.{ℕ, suc, _+_, _-_, _≤_, _<_}
 use mathlib.Core.Path.{_≡_, refl, sym, ap, _∙_, subst}
 use mathlib.Core.List.{List, [], _∷_, _++_, append-assoc, append-nil}
-use mathlib.Core.Logic.{_⊎_, inl, inr, ⊎-elim}
+use mathlib.Core.Logic.{_⊎_, ⊎-elim}
 use native.Mathlib.Omega.{arith}
-use lib.ListN.{length, getD, take, drop, length-append, take-append-drop, length-take}
-use lib.Seq.{take-suc, take-append-seam, take-append-le, drop-append-seam, drop-append-le, length-take-le, take-take, take-length, getD-take, getD-append-add}
+use lib.ListN.{length, getD, take, drop, length-append, take-append-drop}
+use lib.Seq.{take-suc, take-append-seam, take-append-le, drop-append-seam, drop-append-le, length-take-le, take-take, getD-take, getD-append-add}
 use Rattle.text.specs.Form.{Form, Of, Begun, Started, Stands, ReadAs, Broken, RefusedAt}
 use Rattle.text.proofs.Decimals.{below-or, order}
 

@@ -1,6 +1,6 @@
 -- What the readers of numbers and lines rest on: numbers and lines do not begin one another, and where each of them breaks.
 -- Assumes nothing.
-use Prim.Native.Nat.{ℕ, zero, suc, _+_, _*_, _-_, _≤_, _<_}
+use Prim.Native.Nat.{ℕ, suc, _+_, _*_, _-_, _≤_, _<_}
 use mathlib.Core.Path.{_≡_, refl, sym, ap, _∙_, subst}
 use mathlib.Core.Bool.{Bool, true, false}
 use mathlib.Core.List.{List, [], _∷_, _++_, append-assoc, append-nil}
@@ -8,16 +8,16 @@ use mathlib.Core.Logic.{_⊎_, inl, inr, ⊎-elim}
 use native.Mathlib.Omega.{arith}
 use native.Mathlib.Nat.{add-zero}
 use native.Mathlib.Numerals.{add-one}
-use lib.ListN.{length, getD, take, drop, length-append, take-append-drop, List·getD-append}
+use lib.ListN.{length, getD, take, drop, take-append-drop, List·getD-append}
 use lib.Seq.{drop-cons, length-take-le, take-all, take-suc}
 use lib.IntN.{ℤ, pos, negsuc}
 use lib.Dec.{ltb}
 use borrow.Author.Tests.{lt-ltb, le-ltb}
-use Rattle.text.specs.Form.{Form, Of, Begun, Started, Stands, ReadAs, Broken}
+use Rattle.text.specs.Form.{Of, Begun, Started, Stands, ReadAs, Broken}
 use Rattle.text.specs.Decimal.{dec, decimal, Range, Fit, number, plain, signed}
-use Rattle.text.specs.Line.{line, lineOf}
+use Rattle.text.specs.Line.{line}
 use Rattle.text.specs.Answer.{Matched}
-use Rattle.text.proofs.Decimals.{Digit, digits, dec-one, follows, Follows, below-or, value, value-dec, value-take, dec-ten}
+use Rattle.text.proofs.Decimals.{Digit, digits, dec-one, follows, Follows, value, value-dec, value-take, dec-ten}
 use Rattle.text.proofs.Forms.{Free, cancel, stands-none, stands-one, stands-join}
 
 -- ---- the first byte of a number

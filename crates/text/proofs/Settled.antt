@@ -2,17 +2,17 @@
 use Prim.Native.Nat.{ℕ, _+_, _≤_, _<_}
 use mathlib.Core.Path.{_≡_, refl, sym, ap, _∙_}
 use mathlib.Core.Bool.{Bool, true, false}
-use mathlib.Core.List.{List, [], _∷_, _++_, append-assoc}
+use mathlib.Core.List.{List, [], _∷_, _++_}
 use native.Mathlib.Omega.{arith}
 use mathlib.Core.Logic.{⊎-elim}
 use lib.ListN.{length, getD, take, length-append}
 use lib.Seq.{take-append-add, take-append-seam, length-take-le, getD-take}
-use lib.IntN.{ℤ, pos, negsuc}
+use lib.IntN.{ℤ, pos}
 use Rattle.text.specs.declared.Natural.{Natural}
 use Rattle.text.specs.declared.Natural.the-variants as Natural
 use Rattle.text.specs.declared.Signed.{Signed}
 use Rattle.text.specs.declared.Signed.the-variants as Signed
-use Rattle.text.specs.Form.{Form, Stands, ReadAs}
+use Rattle.text.specs.Form.{Form, Stands}
 use Rattle.text.specs.Decimal.{decimal, Range, Fit, number}
 use Rattle.text.specs.Answer.{NaturalIn, SignedIn, Matched, Put}
 use Rattle.text.specs.Inner.{SameKey}

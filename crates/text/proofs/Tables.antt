@@ -1,19 +1,19 @@
 -- The laws of tables of lines, by one induction over the table whatever its lines: tables do not begin one another, they are
 -- read and written line by line, and a line that breaks is where the whole text is refused. Assumes nothing.
-use Prim.Native.Nat.{ℕ, zero, suc, _+_, _^_, _≤_, _<_}
+use Prim.Native.Nat.{ℕ, suc, _+_, _^_, _≤_, _<_}
 use mathlib.Core.Path.{_≡_, refl, sym, ap, _∙_, subst}
 use mathlib.Core.List.{List, [], _∷_, _++_, append-assoc, append-nil}
 use mathlib.Core.Logic.{⊎-elim}
 use native.Mathlib.Omega.{arith}
 use lib.ListN.{length, getD, take, drop, length-append, take-append-drop}
-use lib.Seq.{take-length, take-all}
+use lib.Seq.{take-all}
 use lib.IntN.{ℤ, pos, negsuc}
-use Rattle.text.specs.Form.{Form, Of, Begun, Started, Stands, ReadAs, Broken, RefusedAt}
+use Rattle.text.specs.Form.{Of, Begun, Stands, ReadAs, Broken, RefusedAt}
 use Rattle.text.specs.Decimal.{Fit, Range, decimal}
 use Rattle.text.specs.Line.{Entry, lineOf, line, linesOf, AllFit, lines}
 use Rattle.text.specs.Answer.{Put}
 use Rattle.text.proofs.Decimals.{below-or, dec-20, dec-length}
-use Rattle.text.proofs.Forms.{Free, cancel, splits, started-past, stands-one, stands-join, stands-none, begun-less}
+use Rattle.text.proofs.Forms.{Free, cancel, splits, started-past, stands-one, stands-join, stands-none}
 use Rattle.text.proofs.Numbers.{line-free}
 use Rattle.text.proofs.Writing.{put-join, line-length}
 

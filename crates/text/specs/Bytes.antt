@@ -3,7 +3,6 @@ use Prim.Native.String.{String, [], _∷_}
 use Prim.Native.Char.{code}
 use mathlib.Core.List as List
 use mathlib.Core.List.{List}
-use mathlib.Core.Path.{_≡_, refl}
 
 -- The bytes of a text in ASCII, so that keys are read as they are written in a sheet.
 abbrev pub bytes : String → List ℕ

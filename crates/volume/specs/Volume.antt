@@ -4,7 +4,7 @@ use Prim.Native.Nat.{ℕ, _*_, _/_, _≤_}
 use mathlib.Core.Path.{_≡_, refl}
 use lib.IntN.{ℤ, pos, negsuc}
 use Rattle.protocol.specs.Numbers.{protocol}
-use Rattle.protocol.specs.Ranges.{kelvinOf, flowMost, contentMost}
+use Rattle.protocol.specs.Ranges.{kelvinOf, flowMost}
 
 -- rule 9.1: the litres of a flow in 0.1 m3 at standard conditions, rounded down (equation 2)
 unfoldable pub litresOf : ℕ → ℤ → ℕ → ℕ

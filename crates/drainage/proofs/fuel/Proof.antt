@@ -1,14 +1,12 @@
-use Prim.Native.Nat.{ℕ, _+_, _*_, _-_, _≤_, _<_}
-use mathlib.Core.Path.{_≡_, refl, sym, ap, _∙_, subst}
+use Prim.Native.Nat.{_*_, _-_}
+use mathlib.Core.Path.{refl}
 use native.Mathlib.Omega.{arith}
-use lib.ListN.{length, getD}
+use lib.ListN.{length}
 use Rattle.columns.specs.Series.{fuelOf, fuelNow}
 use Rattle.drainage.proofs.Burning.{Burning, line-most, sum-room, burning-more, burnt}
 use borrow.Author.Needs.{needs}
 use Rattle.drainage.proofs.fuel.Statement.{statement}
 use Rattle.drainage.proofs.fuel.Tie as tie
-use Rattle.drainage.proofs.fuel.Reads as reads
-use Rattle.drainage.proofs.fuel.Lts as lts
 mod PlaceNames
 use PlaceNames.*
 

@@ -1,25 +1,16 @@
 -- `drainage::quantify` meets its contract: refused with nothing changed, or accepted with what the definitions give.
 use Rattle.drainage.proofs.Settling.{settled-made}
-use mathlib.Core.Path.{_≡_, refl, sym, ap, _∙_, subst}
+use mathlib.Core.Path.{sym, _∙_}
 use lib.ListN.{length}
 use Rattle.columns.specs.Series.{seriesNow, checksNow, fuelNow}
 use Rattle.drainage_judge.specs.Call.{Call}
 use Rattle.drainage_judge.proofs.Unrefused.{unrefused}
 use Rattle.drainage_devices.specs.Devices.{Results}
-use Rattle.figures.specs.declared.Figures.{Figures}
-use Rattle.drainage.specs.declared.Answer.the-variants.{Accepted}
-use Rattle.drainage.specs.Promise.{Settled}
 use Rattle.drainage.proofs.Sound.{sound}
-use Rattle.drainage.proofs.Settling.{settled-refused, settled-accepted, moderate-call, sheet-is}
+use Rattle.drainage.proofs.Settling.{settled-refused, moderate-call, sheet-is}
 use borrow.Author.Needs.{needs}
 use Rattle.drainage.proofs.quantify.Statement.{statement}
 use Rattle.drainage.proofs.quantify.Tie as tie
-use Rattle.drainage.proofs.quantify.Reads as reads
-use Rattle.drainage.proofs.quantify.Lts as lts
-use Rattle.drainage_judge.proofs.judge.Reads as judge-reads
-use Rattle.drainage_devices.proofs.fill_rows.Reads as fill-rows-reads
-use Rattle.drainage.proofs.fuel.Reads as fuel-reads
-use Rattle.drainage.proofs.sheet.Reads as sheet-reads
 mod PlaceNames
 use PlaceNames.*
 

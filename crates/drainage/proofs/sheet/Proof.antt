@@ -1,19 +1,10 @@
 use mir.Syntax.{w64}
-use mir.Val.{SFits}
 use mir.Facts.{toZ-ofZ}
-use mathlib.Core.Path.{_≡_, refl, sym, ap, _∙_}
-use lib.IntN.{ℤ}
-use Rattle.balance.specs.Balance.{reductionOf, tonnesOf, creditsOf}
-use Rattle.drainage.specs.Sheet.{figuresFrom}
+use mathlib.Core.Path.{_∙_}
 use Rattle.drainage.proofs.Settling.{sheet-of}
 use borrow.Author.Needs.{needs}
 use Rattle.drainage.proofs.sheet.Statement.{statement}
 use Rattle.drainage.proofs.sheet.Tie as tie
-use Rattle.drainage.proofs.sheet.Reads as reads
-use Rattle.drainage.proofs.sheet.Lts as lts
-use Rattle.balance.proofs.credits.Reads as credits-reads
-use Rattle.balance.proofs.reduction.Reads as reduction-reads
-use Rattle.balance.proofs.tonnes.Reads as tonnes-reads
 
 add-debit : tie.Need-add-debit
 add-debit c = search needs

@@ -2,22 +2,14 @@ use Rattle.drainage_device.proofs.Laws.{low-weaken, ready-held, sums-he
 use Rattle.columns.specs.Series.{seriesNow, checksNow}
 use Rattle.drainage_drift.specs.Drift.{Ordered}
 use Rattle.protocol.specs.Ranges.{flowMost, contentMost}
-use mathlib.Core.Path.{_≡_, refl, sym, ap, _∙_, subst}
+use mathlib.Core.Path.{sym, _∙_, subst}
 use Prim.Native.Nat.{ℕ, _≤_}
-use mathlib.Core.List.{List}
-use lib.ListN.{length}
 use native.Mathlib.Omega.{arith}
-use Rattle.drainage_device.specs.Device.{Records, Right, instrumentOf}
-use Rattle.drainage_device.proofs.Laws.{flow-low, content-low, ready, heldOf, filled, sums-most}
+use Rattle.drainage_device.specs.Device.{Records, instrumentOf}
+use Rattle.drainage_device.proofs.Laws.{flow-low, content-low}
 use borrow.Author.Needs.{needs}
 use Rattle.drainage_device.proofs.fill_row.Statement.{statement}
 use Rattle.drainage_device.proofs.fill_row.Tie as tie
-use Rattle.drainage_device.proofs.fill_row.Reads as reads
-use Rattle.drainage_device.proofs.fill_row.Lts as lts
-use Rattle.balance.proofs.destroyed.Reads as destroyed-reads
-use Rattle.balance.proofs.uncombusted.Reads as uncombusted-reads
-use Rattle.drainage_device.proofs.fill_series.Reads as fill-series-reads
-use Rattle.drainage_outcomes.proofs.finish.Reads as finish-reads
 mod PlaceNames
 use PlaceNames.*
 

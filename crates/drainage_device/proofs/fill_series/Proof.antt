@@ -1,20 +1,14 @@
-use mathlib.Core.Path.{_≡_, refl, sym, ap, _∙_, subst}
-use Prim.Native.Nat.{ℕ, _≤_}
+use mathlib.Core.Path.{sym, ap, _∙_, subst}
+use Prim.Native.Nat.{ℕ}
 use mathlib.Core.List.{List}
 use lib.ListN.{length}
-use native.Mathlib.Omega.{arith}
 use Rattle.rows.specs.Rows.{build}
 use Rattle.protocol.specs.Ranges.{flowMost}
-use Rattle.drainage_drift.specs.Drift.{correctedAt}
 use Rattle.drainage_gaps.specs.Private.{filledAt, Goes}
 use Rattle.drainage_device.proofs.Laws.{corrected-goes}
 use borrow.Author.Needs.{needs}
 use Rattle.drainage_device.proofs.fill_series.Statement.{statement}
 use Rattle.drainage_device.proofs.fill_series.Tie as tie
-use Rattle.drainage_device.proofs.fill_series.Reads as reads
-use Rattle.drainage_device.proofs.fill_series.Lts as lts
-use Rattle.drainage_drift.proofs.correct.Reads as correct-reads
-use Rattle.drainage_gaps.proofs.fill_gaps.Reads as fill-gaps-reads
 mod PlaceNames
 use PlaceNames.*
 

@@ -1,18 +1,9 @@
 use Rattle.drainage_devices.proofs.Laws.{added-is, Sums, sums-fit}
 use native.Mathlib.Omega.{arith}
-use mathlib.Core.Path.{_≡_, refl, sym, ap, _∙_}
-use Prim.Native.Nat.{ℕ, _+_}
 use lib.Dec.{lit<}
-use lib.ListN.{getD}
-use Rattle.balance.specs.Balance.{baselineMg, carbonDioxideMg, uncombustedMg}
 use Rattle.balance.proofs.Laws.{carbon-le}
-use Rattle.drainage_devices.specs.Private.{added}
 use Rattle.drainage_devices.proofs.add.Statement.{statement}
 use Rattle.drainage_devices.proofs.add.Tie as tie
-use Rattle.drainage_devices.proofs.add.Reads as reads
-use Rattle.drainage_devices.proofs.add.Lts as lts
-use Rattle.balance.proofs.carbon_dioxide_mg.Reads as carbon-dioxide-mg-reads
-use Rattle.balance.proofs.methane_mg.Reads as methane-mg-reads
 mod PlaceNames
 use PlaceNames.*
 

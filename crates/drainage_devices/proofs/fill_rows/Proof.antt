@@ -1,15 +1,11 @@
 -- `drainage_devices::fill_rows` meets its contract: rows, accounts and totals up to device d, one device a turn.
-use Prim.Native.Nat.{ℕ, _+_, _*_, _-_, _≤_}
-use mathlib.Core.Path.{_≡_, refl, sym, ap, _∙_}
+use Prim.Native.Nat.{_*_, _-_}
+use mathlib.Core.Path.{sym, _∙_}
 use native.Mathlib.Omega.{arith}
 use Rattle.columns.specs.Series.{seriesOf, checksOf}
 use Rattle.drainage_devices.proofs.Loop.{Going, going-start, going-on, going-room, going-place, going-done, totals-none}
 use Rattle.drainage_devices.proofs.fill_rows.Statement.{statement}
 use Rattle.drainage_devices.proofs.fill_rows.Tie as tie
-use Rattle.drainage_devices.proofs.fill_rows.Reads as reads
-use Rattle.drainage_devices.proofs.fill_rows.Lts as lts
-use Rattle.drainage_devices.proofs.add.Reads as add-reads
-use Rattle.drainage_devices.proofs.fill_device.Reads as fill-device-reads
 mod PlaceNames
 use PlaceNames.*
 

@@ -1,15 +1,8 @@
 -- `drainage_report::put_answer` meets its contract: a sheet is never too long for the buffer. Assumes nothing.
 use Rattle.drainage_report.proofs.Laws.{sheet-leads, never-short, answer-leads}
-use native.Mathlib.Omega.{arith}
-use mathlib.Core.Path.{refl, _∙_}
 use borrow.Author.Needs.{needs}
 use Rattle.drainage_report.proofs.put_answer.Statement.{statement}
 use Rattle.drainage_report.proofs.put_answer.Tie as tie
-use Rattle.drainage_report.proofs.put_answer.Reads as reads
-use Rattle.drainage_report.proofs.put_answer.Lts as lts
-use Rattle.refusals.proofs.Refusal.told.Reads as told-reads
-use Rattle.drainage_report.proofs.put_refusal.Reads as put-refusal-reads
-use Rattle.sheet_text.proofs.write.Reads as write-reads
 mod PlaceNames
 use PlaceNames.*
 

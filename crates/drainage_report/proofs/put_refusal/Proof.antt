@@ -1,18 +1,11 @@
 -- `drainage_report::put_refusal` meets its contract: the three lines one after the other. Assumes nothing.
 use Rattle.text.proofs.Writing.{put-long}
-use mathlib.Core.List.{List}
 use Rattle.drainage_report.proofs.Laws.{line-most, refusal-leads}
 use Rattle.text.specs.Bytes.{bytes}
-use lib.ListN.{length}
 use native.Mathlib.Omega.{arith}
-use mathlib.Core.Path.{refl, ap, _∙_}
-use Prim.Native.Nat.{ℕ, _+_, _<_}
-use borrow.Author.Needs.{needs}
+use mathlib.Core.Path.{refl, _∙_}
 use Rattle.drainage_report.proofs.put_refusal.Statement.{statement}
 use Rattle.drainage_report.proofs.put_refusal.Tie as tie
-use Rattle.drainage_report.proofs.put_refusal.Reads as reads
-use Rattle.drainage_report.proofs.put_refusal.Lts as lts
-use Rattle.writing.proofs.put_line.Reads as put-line-reads
 mod PlaceNames
 use PlaceNames.*
 

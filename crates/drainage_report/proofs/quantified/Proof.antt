@@ -1,18 +1,12 @@
 -- `drainage_report::quantified` meets its contract: what it lends on is what the record asks for. Assumes nothing.
-use Rattle.drainage_report.proofs.Laws.{part-long}
 use Rattle.drainage_report.proofs.Laws.{lesser-first, quantified-is}
 use Rattle.steps.proofs.Tests.{cells-fit}
 use lib.Seq.{length-take-le}
-use lib.ListN.{length, length-append}
 use native.Mathlib.Omega.{arith}
-use mathlib.Core.Path.{_∙_, sym, ap}
+use mathlib.Core.Path.{sym}
 use borrow.Author.Needs.{needs}
 use Rattle.drainage_report.proofs.quantified.Statement.{statement}
 use Rattle.drainage_report.proofs.quantified.Tie as tie
-use Rattle.drainage_report.proofs.quantified.Reads as reads
-use Rattle.drainage_report.proofs.quantified.Lts as lts
-use Rattle.drainage.proofs.quantify.Reads as quantify-reads
-use Rattle.drainage_record.proofs.lesser.Reads as lesser-reads
 mod PlaceNames
 use PlaceNames.*
 

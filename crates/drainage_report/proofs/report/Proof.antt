@@ -2,20 +2,10 @@
 use Rattle.drainage_report.proofs.Job.{ready-for, read-long, reported-refusal, reported-record}
 use Rattle.columns.specs.Series.{seriesOf, checksOf, fuelOf, seriesNow}
 use Rattle.drainage_report.specs.Report.{readerRows}
-use Prim.Native.Nat.{ℕ}
-use lib.IntN.{pos}
-use lib.ListN.{length-replicate}
-use mathlib.Core.Path.{sym, _∙_}
+use mathlib.Core.Path.{sym}
 use borrow.Author.Needs.{needs}
 use Rattle.drainage_report.proofs.report.Statement.{statement}
 use Rattle.drainage_report.proofs.report.Tie as tie
-use Rattle.drainage_report.proofs.report.Reads as reads
-use Rattle.drainage_report.proofs.report.Lts as lts
-use Rattle.drainage_record.proofs.ReadAnswer.told.Reads as told-reads
-use Rattle.drainage_record.proofs.read.Reads as read-reads
-use Rattle.drainage_report.proofs.put_answer.Reads as put-answer-reads
-use Rattle.drainage_report.proofs.put_refusal.Reads as put-refusal-reads
-use Rattle.drainage_report.proofs.quantified.Reads as quantified-reads
 mod PlaceNames
 use PlaceNames.*
 

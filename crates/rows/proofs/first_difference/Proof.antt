@@ -1,16 +1,14 @@
 use borrow.Author.Needs.{needs}
 use Rattle.rows.proofs.Scan.{Passed, passed-none, passed-more, passed-found, passed-all}
 use borrow.Author.Tests.{eq-eqb, ne-eqb}
-use Prim.Native.Nat.{ℕ, _≤_, _<_, _-_}
+use Prim.Native.Nat.{ℕ, _-_}
 use mathlib.Core.Path.{_≡_, ap}
-use mathlib.Core.Bool.{Bool, true, false, not}
+use mathlib.Core.Bool.{Bool, not}
 use mathlib.Core.List.{List}
 use lib.Dec.{eqb}
 use lib.ListN.{length, getD}
 use Rattle.rows.proofs.first_difference.Statement.{statement}
 use Rattle.rows.proofs.first_difference.Tie as tie
-use Rattle.rows.proofs.first_difference.Reads as reads
-use Rattle.rows.proofs.first_difference.Lts as lts
 mod PlaceNames
 use PlaceNames.*
 

@@ -3,8 +3,6 @@ use lib.Seq.{length-take-le}
 use borrow.Author.Needs.{needs}
 use Rattle.sheet.proofs.first.Statement.{statement}
 use Rattle.sheet.proofs.first.Tie as tie
-use Rattle.sheet.proofs.first.Reads as reads
-use Rattle.sheet.proofs.first.Lts as lts
 
 slice-aggregate-result : tie.Need-slice-aggregate-result
 slice-aggregate-result c = sym (length-take-le _ _ (c .before .if1 .taken))

@@ -3,12 +3,6 @@ use mathlib.Core.Path.{sym}
 use borrow.Author.Needs.{needs}
 use Rattle.sheet.proofs.run.Statement.{statement}
 use Rattle.sheet.proofs.run.Tie as tie
-use Rattle.sheet.proofs.run.Reads as reads
-use Rattle.sheet.proofs.run.Lts as lts
-use Rattle.io.proofs.read_full.Reads as read-full-reads
-use Rattle.io.proofs.write_all.Reads as write-all-reads
-use Rattle.drainage_report.proofs.report.Reads as report-reads
-use Rattle.sheet.proofs.first.Reads as first-reads
 mod PlaceNames
 use PlaceNames.*
 

@@ -1,7 +1,6 @@
 -- `writing::put_line` meets its contract: the parts joined. Assumes nothing.
 use native.Mathlib.Omega.{arith}
 use lib.IntN.{pos}
-use lib.ListN.{length}
 use denote.Ref.{now}
 use Rattle.text.proofs.Writing.{line-length, put-line-parts}
 use borrow.Author.Needs.{needs}

@@ -3,9 +3,6 @@ use mathlib.Core.Path.{_∙_}
 use borrow.Author.Needs.{needs}
 use Rattle.refusals.proofs.Refusal.told.Statement.{statement}
 use Rattle.refusals.proofs.Refusal.told.Tie as tie
-use Rattle.refusals.proofs.Refusal.told.Reads as reads
-use Rattle.refusals.proofs.Refusal.told.Lts as lts
-use Rattle.refusals.proofs.Told.at.Reads as at-reads
 
 enum-told : tie.Need-enum-told
 enum-told c = search needs

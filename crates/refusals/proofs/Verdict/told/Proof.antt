@@ -3,10 +3,6 @@ use mathlib.Core.Path.{_∙_}
 use borrow.Author.Needs.{needs}
 use Rattle.refusals.proofs.Verdict.told.Statement.{statement}
 use Rattle.refusals.proofs.Verdict.told.Tie as tie
-use Rattle.refusals.proofs.Verdict.told.Reads as reads
-use Rattle.refusals.proofs.Verdict.told.Lts as lts
-use Rattle.refusals.proofs.Refusal.told.Reads as told-reads
-use Rattle.refusals.proofs.Told.at.Reads as at-reads
 
 enum-told : tie.Need-enum-told
 enum-told c = search needs
