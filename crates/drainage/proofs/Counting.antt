@@ -40,7 +40,8 @@ counted-hits (suc (suc zero)) = refl
 counted-hits (suc (suc (suc x))) = none (suc (suc (suc x))) (omega arith)
   where
     none : (y : ℕ) → 3 ≤ y → pick (counted y) 1 0 ≡ hit y 0 + hit y 1 + hit y 2
-    none y h = ap (λ (b : Bool). pick b 1 0) (le-ltb y 3 h) ∙ sym (ap₂ _+_ (ap₂ _+_ (other y 0 (omega arith)) (other y 1 (omega arith))) (other y 2 (omega arith)))
+    none y h =
+        ap (λ (b : Bool). pick b 1 0) (le-ltb y 3 h) ∙ sym (ap₂ _+_ (ap₂ _+_ (other y 0 (omega arith)) (other y 1 (omega arith))) (other y 2 (omega arith)))
 
 replaced-hits : (x : ℕ) → pick (either (eqb x 1) (eqb x 2)) 1 0 ≡ hit x 1 + hit x 2
 replaced-hits zero = refl

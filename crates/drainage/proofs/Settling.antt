@@ -87,7 +87,8 @@ module _ (c : Call) (before : Results) (x : Unrefused c) where
   inside-at : (d k : ℕ) → d < c .devices → k < c .intervals → counted (getD (after .outcome) (d * c .intervals + k) 0) ≡ true
       → (0 < kelvinOf (getD (c .series .temp) (d * c .intervals + k) (pos 0))) × (getD (after .content) (d * c .intervals + k) 0 ≤ contentMost)
   inside-at d k h l e =
-      let y = counted-inside (recordsOf (lentIn c) d) (sound c x .right d h) k (subst (λ (m : ℕ). k < m) (sym (row-whole d h)) l) (ap counted (sym (outcome-at d k h l)) ∙ e) in (
+      let y = counted-inside (recordsOf (lentIn c) d) (sound c x .right d h) k (subst (λ (m : ℕ). k < m) (sym (row-whole d h)) l)
+      (ap counted (sym (outcome-at d k h l)) ∙ e) in (
         subst (λ (t : ℤ). 0 < kelvinOf t) (sym (temp-at d k h l)) (let z = y .0 .kelvin-least in omega arith),
         subst (λ (v : ℕ). v ≤ contentMost) (sym (content-at d k h l)) (y .1),
       )
@@ -101,7 +102,8 @@ module _ (c : Call) (before : Results) (x : Unrefused c) where
   litres-at d h =
       sumTo-ext (c .intervals)
       (λ k. pick (counted (getD (after .outcome) (d * c .intervals + k) 0))
-      (methaneLitres (getD (after .flow) (d * c .intervals + k) 0) (getD (after .content) (d * c .intervals + k) 0) (getD (c .series .temp) (d * c .intervals + k) (pos 0)) (getD (c .series .press) (d * c .intervals + k) 0)) 0)
+      (methaneLitres (getD (after .flow) (d * c .intervals + k) 0) (getD (after .content) (d * c .intervals + k) 0)
+      (getD (c .series .temp) (d * c .intervals + k) (pos 0)) (getD (c .series .press) (d * c .intervals + k) 0)) 0)
       (litresAt (recordsOf (lentIn c) d))
       (λ k l. same-litres (outcome-at d k h l) (flow-at d k h l) (content-at d k h l) (temp-at d k h l) (press-at d k h l))
       ∙ ap (λ (n : ℕ). sumTo n (litresAt (recordsOf (lentIn c) d))) (sym (row-whole d h))
@@ -150,14 +152,17 @@ module _ (c : Call) (before : Results) (x : Unrefused c) where
   unfolding figuresOf figuresFrom totalsOf excludedIn
   excluded-is =
       by-rows (λ o. not (counted o)) (excludedIn (lentIn c))
-      (λ d h. sumTo-ext 7 (λ j. countIn (lentIn c) d (3 + j)) (λ j. countOf (c .intervals) (λ k. outcomeGiven after (d * c .intervals + k)) (3 + j)) (λ j z. count-row d (3 + j) h)
+      (λ d h. sumTo-ext 7 (λ j. countIn (lentIn c) d (3 + j)) (λ j. countOf (c .intervals) (λ k. outcomeGiven after (d * c .intervals + k)) (3 + j))
+      (λ j z. count-row d (3 + j) h)
       ∙ sym (row-excluded (c .intervals) (λ k. outcomeGiven after (d * c .intervals + k)) (λ k l. given-few d k h l)))
 
   -- ---- the tonnes
 
   counted-all : countedAll (usedIn c after) ≡ figuresOf c .counted
   unfolding countedAll countedOf usedIn figuresOf figuresFrom totalsOf
-  counted-all = sym (sumTo-ext (c .devices) (countedIn (lentIn c)) (λ d. sumTo (c .intervals) (λ k. pick (counted (outcomeGiven after (d * c .intervals + k))) 1 0)) counted-in)
+  counted-all =
+      sym (sumTo-ext (c .devices) (countedIn (lentIn c)) (λ d. sumTo (c .intervals) (λ k. pick (counted (outcomeGiven after (d * c .intervals + k))) 1 0))
+      counted-in)
 
   fair-call : Fair (exactReduction (usedIn c after)) (figuresOf c .tonnes) (promised (figuresOf c .counted) (figuresOf c .devices))
   unfolding usedIn fuelSum figuresOf figuresFrom totalsOf reductionAll
@@ -300,7 +305,8 @@ settled-unique c before one two a b x y = (x .answer ∙ sym (y .answer), x .res
 
 -- the sums fit
 moderate-totals : (c : Call) → Unrefused c → (fuel : ℕ) → fuel ≤ 256000000000000000
-    → Moderate (totalsOf (lentIn c) (c .devices) .«baseline_mg») (totalsOf (lentIn c) (c .devices) .«co2_mg» + totalsOf (lentIn c) (c .devices) .«uncombusted_mg» + fuel)
+    → Moderate (totalsOf (lentIn c) (c .devices) .«baseline_mg»)
+    (totalsOf (lentIn c) (c .devices) .«co2_mg» + totalsOf (lentIn c) (c .devices) .«uncombusted_mg» + fuel)
 unfolding totalsOf
 moderate-totals c x fuel l =
     moderate (c .devices) (kindIn (lentIn c)) (litresIn (lentIn c)) fuel (x .shape .devices-most) (λ d h. litres-most (lentIn c) (c .devices) (sound c x) d h) l

@@ -42,8 +42,10 @@ module _ (c : Call) (x : Unrefused c) (d : ℕ) (h : d < c .devices) where
       let k : getD (cut (c .checks .counts) (d * 2) (d * 2 + 2)) g 0 ≡ getD (c .checks .counts) (2 * d + g) 0 = count-at g l in
       let i : 2 * d + g < 2 * c .devices = omega arith in
       let few : getD (c .checks .counts) (2 * d + g) 0 ≤ 32 = x .count-most (2 * d + g) i in
-      let pl : length (cut (c .checks .positions) (d * 64) (d * 64 + 64)) ≡ 64 = cut-long (c .checks .positions) (d * 64) 64 (omega (arith, x .shape .roomy .positions)) in
-      let dl : length (cut (c .checks .drifts) (d * 64) (d * 64 + 64)) ≡ 64 = cut-long (c .checks .drifts) (d * 64) 64 (omega (arith, x .shape .roomy .drifts)) in
+      let pl : length (cut (c .checks .positions) (d * 64) (d * 64 + 64)) ≡ 64 = cut-long (c .checks .positions) (d * 64) 64
+      (omega (arith, x .shape .roomy .positions)) in
+      let dl : length (cut (c .checks .drifts) (d * 64) (d * 64 + 64)) ≡ 64 = cut-long (c .checks .drifts) (d * 64) 64
+      (omega (arith, x .shape .roomy .drifts)) in
       record {
         few = omega arith;
         positions-kept = cut-long (cut (c .checks .positions) (d * 64) (d * 64 + 64)) (32 * g) 32 (omega arith);
@@ -52,7 +54,8 @@ module _ (c : Call) (x : Unrefused c) (d : ℕ) (h : d < c .devices) where
             subst (λ (p : ℕ). p ≤ c .intervals) (sym (place-at (c .checks .positions) d g j l (omega arith)))
             (x .position-most (2 * d + g) j i (omega arith));
         rising = λ j n m o.
-            subst₂ (λ (p q : ℕ). p < q) (sym (place-at (c .checks .positions) d g j l (omega arith))) (sym (place-at (c .checks .positions) d g n l (omega arith)))
+            subst₂ (λ (p q : ℕ). p < q) (sym (place-at (c .checks .positions) d g j l (omega arith)))
+            (sym (place-at (c .checks .positions) d g n l (omega arith)))
             (x .positions-rise (2 * d + g) j n i m (omega arith));
       }
 

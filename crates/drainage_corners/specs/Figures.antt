@@ -6,13 +6,15 @@ use mathlib.Core.List.{[], _∷_}
 use lib.IntN.{ℤ, pos, negsuc}
 use Rattle.figures.specs.declared.Figures.{Figures}
 use Rattle.volume.specs.Volume.{methaneLitres, methaneOf, litresOf}
-use Rattle.balance.specs.Balance.{destroyedOf, uncombustedOf, baselineMg, carbonDioxideMg, uncombustedMg, fuelMg, baselineAll, carbonDioxideAll, uncombustedAll, reductionOf, tonnesOf, creditsOf}
+use Rattle.balance.specs.Balance.{destroyedOf, uncombustedOf, baselineMg, carbonDioxideMg, uncombustedMg, fuelMg, baselineAll, carbonDioxideAll}
+use Rattle.balance.specs.Balance.{uncombustedAll, reductionOf, tonnesOf, creditsOf}
 use Rattle.drainage_window.specs.Window.{tallyOf, meanOf, limitOf, meets, greatestUpTo}
 use Rattle.drainage_drift.specs.Drift.{correctedAt, keptOr, corrected, stretchDrift, together}
 use Rattle.drainage_runs.specs.Runs.{gapStart, gapEnd, run, whole, usable}
 use Rattle.drainage_gaps.specs.Gaps.{classOf, windowValues, replacementOf, replacementAt}
 use Rattle.drainage_outcomes.specs.Outcomes.{outcomeOf, litresFor}
-use Rattle.drainage_device.specs.Device.{instrumentOf, correctedFlow, correctedContent, outcomeAt, valueAt, flowUsedAt, contentUsedAt, litresAt, methaneOf as deviceMethane}
+use Rattle.drainage_device.specs.Device.{instrumentOf, correctedFlow, correctedContent, outcomeAt, valueAt, flowUsedAt, contentUsedAt, litresAt}
+use Rattle.drainage_device.specs.Device.{methaneOf as deviceMethane}
 use Rattle.drainage_devices.specs.Devices.{recordsOf}
 use Rattle.drainage_devices.specs.Totals.{countIn, countedIn, replacedIn, excludedIn, litresIn, totalsOf}
 use Rattle.drainage.specs.Sheet.{fuelSum, figuresFrom, figuresOf}

@@ -13,7 +13,8 @@ use Rattle.drainage_judge.specs.Call.{Call}
 use Rattle.volume.specs.Volume.{methaneLitres, methaneOf, litresOf}
 use Rattle.balance.specs.Balance.{destroyedOf, uncombustedOf}
 use Rattle.drainage_outcomes.specs.Outcomes.{outcomeOf, litresFor}
-use Rattle.drainage_device.specs.Device.{instrumentOf, correctedFlow, correctedContent, outcomeAt, valueAt, flowUsedAt, contentUsedAt, litresAt, accountOf, methaneOf as deviceMethane}
+use Rattle.drainage_device.specs.Device.{instrumentOf, correctedFlow, correctedContent, outcomeAt, valueAt, flowUsedAt, contentUsedAt, litresAt, accountOf}
+use Rattle.drainage_device.specs.Device.{methaneOf as deviceMethane}
 use Rattle.drainage_devices.specs.Devices.{recordsOf, outcomePart, flowPart, contentPart, accountPart, Results, resultsOf}
 use Rattle.drainage.specs.Sheet.{lentIn}
 use Rattle.drainage_corners.specs.Calls.{worked, checked, gapped}

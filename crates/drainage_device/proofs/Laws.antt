@@ -25,18 +25,21 @@ use Rattle.drainage_gaps.proofs.Laws.{Bounded, replacement-bounded}
 use Rattle.drainage_gaps.proofs.Filling.{filled-measured, filled-missing}
 use Rattle.volume.specs.Volume.{methaneLitres, litresMost, Inside}
 use Rattle.balance.specs.Balance.{destroyedOf, uncombustedOf, deviceMost}
-use Rattle.drainage_outcomes.specs.Outcomes.{outcomeKinds, outcomeOf, counted, usedFor, litresFor, heldOutcome, entryOf, entryAt, sumsOf, Held, Holds, ReadyAt, Finished}
+use Rattle.drainage_outcomes.specs.Outcomes.{outcomeKinds, outcomeOf, counted, usedFor, litresFor, heldOutcome, entryOf, entryAt, sumsOf, Held, Holds, ReadyAt}
+use Rattle.drainage_outcomes.specs.Outcomes.{Finished}
 use Rattle.drainage_outcomes.specs.declared.Sums.{Sums}
 use Rattle.drainage_outcomes.proofs.Laws.{outcome-of-ten, methane-most, counted-used}
 use Rattle.balance.proofs.Laws.{partition}
-use Rattle.drainage_device.specs.Device.{Records, intervalsOf, instrumentOf, correctedFlow, correctedContent, replacedAs, outcomeAt, valueOf, valueAt, flowUsedAt, contentUsedAt, litresAt, methaneOf, accountOf, Low, Right, Filled}
+use Rattle.drainage_device.specs.Device.{Records, intervalsOf, instrumentOf, correctedFlow, correctedContent, replacedAs, outcomeAt, valueOf, valueAt}
+use Rattle.drainage_device.specs.Device.{flowUsedAt, contentUsedAt, litresAt, methaneOf, accountOf, Low, Right, Filled}
 use Rattle.drainage_device.specs.declared.Account.{Account}
 use Rattle.rows.proofs.Truth.{clash}
 
 -- ---- one series
 
 -- readings that are right are low where they are measured: stated once over the range
-pub low-right : (reading : List ℕ) (b : ℕ) → ((i : ℕ) → i < length reading → either (leb (getD reading i 0) b) (missing (getD reading i 0)) ≡ true) → Low reading b
+pub low-right : (reading : List ℕ) (b : ℕ) → ((i : ℕ) → i < length reading → either (leb (getD reading i 0) b) (missing (getD reading i 0)) ≡ true) → Low
+    reading b
 low-right reading b h =
     record {
       low = λ i e.
@@ -156,10 +159,12 @@ unfolding outcomeAt
 without-flow r i e z =
     subst
     (λ (t : Bool). counted
-    (outcomeOf (getD (r .series .status) i 0) (either (tempMissing (getD (r .series .temp) i (pos 0))) (pressMissing (getD (r .series .press) i 0))) t (missingAt (r .series .content) i)
+    (outcomeOf (getD (r .series .status) i 0) (either (tempMissing (getD (r .series .temp) i (pos 0))) (pressMissing (getD (r .series .press) i 0))) t
+    (missingAt (r .series .content) i)
     (replacedAs 1 (replacementAt (r .series .flow) (correctedFlow r) i)) (replacedAs 2 (replacementAt (r .series .content) (correctedContent r) i))) ≡ false)
     (sym e)
-    (excluded-flow (getD (r .series .status) i 0) (either (tempMissing (getD (r .series .temp) i (pos 0))) (pressMissing (getD (r .series .press) i 0))) (missingAt (r .series .content) i)
+    (excluded-flow (getD (r .series .status) i 0) (either (tempMissing (getD (r .series .temp) i (pos 0))) (pressMissing (getD (r .series .press) i 0)))
+    (missingAt (r .series .content) i)
     (replacedAs 1 (replacementAt (r .series .flow) (correctedFlow r) i)) (replacedAs 2 (replacementAt (r .series .content) (correctedContent r) i)) z)
 
 without-content : (r : Records) (i : ℕ) → missingAt (r .series .content) i ≡ true
@@ -168,10 +173,12 @@ unfolding outcomeAt
 without-content r i e z =
     subst
     (λ (t : Bool). counted
-    (outcomeOf (getD (r .series .status) i 0) (either (tempMissing (getD (r .series .temp) i (pos 0))) (pressMissing (getD (r .series .press) i 0))) (missingAt (r .series .flow) i) t
+    (outcomeOf (getD (r .series .status) i 0) (either (tempMissing (getD (r .series .temp) i (pos 0))) (pressMissing (getD (r .series .press) i 0)))
+    (missingAt (r .series .flow) i) t
     (replacedAs 1 (replacementAt (r .series .flow) (correctedFlow r) i)) (replacedAs 2 (replacementAt (r .series .content) (correctedContent r) i))) ≡ false)
     (sym e)
-    (excluded-content (getD (r .series .status) i 0) (either (tempMissing (getD (r .series .temp) i (pos 0))) (pressMissing (getD (r .series .press) i 0))) (missingAt (r .series .flow) i)
+    (excluded-content (getD (r .series .status) i 0) (either (tempMissing (getD (r .series .temp) i (pos 0))) (pressMissing (getD (r .series .press) i 0)))
+    (missingAt (r .series .flow) i)
     (replacedAs 1 (replacementAt (r .series .flow) (correctedFlow r) i)) (replacedAs 2 (replacementAt (r .series .content) (correctedContent r) i)) z)
 
 -- an entry's values are those that its outcome leaves of what is held
@@ -184,12 +191,15 @@ unfolding entryAt entryOf
 entry-content h i = refl
 
 entry-litres-used : (h : Held) (i : ℕ)
-    → entryAt h i .litres ≡ litresFor (entryAt h i .outcome) (entryAt h i .flow) (entryAt h i .content) (getD (h .series .temp) i (pos 0)) (getD (h .series .press) i 0)
+    → entryAt h i .litres ≡ litresFor (entryAt h i .outcome) (entryAt h i .flow) (entryAt h i .content) (getD (h .series .temp) i (pos 0))
+    (getD (h .series .press) i 0)
 unfolding entryAt entryOf litresFor
 entry-litres-used h i = go (counted (entryAt h i .outcome))
   where
-    go : (t : Bool) → pick t (methaneLitres (getD (h .flow-held) i mark) (getD (h .content-held) i mark) (getD (h .series .temp) i (pos 0)) (getD (h .series .press) i 0)) 0
-        ≡ pick t (methaneLitres (pick t (getD (h .flow-held) i mark) 0) (pick t (getD (h .content-held) i mark) 0) (getD (h .series .temp) i (pos 0)) (getD (h .series .press) i 0)) 0
+    go : (t : Bool) → pick t (methaneLitres (getD (h .flow-held) i mark) (getD (h .content-held) i mark) (getD (h .series .temp) i (pos 0))
+        (getD (h .series .press) i 0)) 0
+        ≡ pick t (methaneLitres (pick t (getD (h .flow-held) i mark) 0) (pick t (getD (h .content-held) i mark) 0) (getD (h .series .temp) i (pos 0))
+        (getD (h .series .press) i 0)) 0
     go true = refl
     go false = refl
 
@@ -253,7 +263,8 @@ module _ (r : Records) (x : Right r) where
                   (filled-holds (r .series .flow) (correctedFlow r) flowMost i flow-goes (omega arith) l);
               content-held =
                   subst (λ (v : ℕ). Holds (getD (r .series .content) i mark) v contentMost) (sym (content-held i l))
-                  (filled-holds (r .series .content) (correctedContent r) contentMost i content-goes (omega arith) (subst (λ (m : ℕ). i < m) (sym (x .long .content)) l));
+                  (filled-holds (r .series .content) (correctedContent r) contentMost i content-goes (omega arith)
+                  (subst (λ (m : ℕ). i < m) (sym (x .long .content)) l));
               temp-right = x .in-range .temp i l;
               press-right = x .in-range .press i l;
             };
@@ -290,8 +301,10 @@ module _ (r : Records) (x : Right r) where
   unfolding litresAt heldOf
   litres-is i l =
       entry-litres-used (heldOf r) i
-      ∙ ap (λ (o : ℕ). litresFor o (entryAt (heldOf r) i .flow) (entryAt (heldOf r) i .content) (getD (heldOf r .series .temp) i (pos 0)) (getD (heldOf r .series .press) i 0)) (outcome-is i l)
-      ∙ ap₂ (λ (f c : ℕ). litresFor (outcomeAt r i) f c (getD (heldOf r .series .temp) i (pos 0)) (getD (heldOf r .series .press) i 0)) (flow-is i l) (content-is i l)
+      ∙ ap (λ (o : ℕ). litresFor o (entryAt (heldOf r) i .flow) (entryAt (heldOf r) i .content) (getD (heldOf r .series .temp) i (pos 0))
+      (getD (heldOf r .series .press) i 0)) (outcome-is i l)
+      ∙ ap₂ (λ (f c : ℕ). litresFor (outcomeAt r i) f c (getD (heldOf r .series .temp) i (pos 0)) (getD (heldOf r .series .press) i 0)) (flow-is i l)
+      (content-is i l)
 
   sums-counts : sumsOf (intervalsOf r) (entryAt (heldOf r)) .outcomes ≡ accountOf r .outcomes
   unfolding sumsOf accountOf
@@ -308,7 +321,8 @@ module _ (r : Records) (x : Right r) where
   pub device-most : methaneOf r ≤ deviceMost
   device-most =
       subst (λ (m : ℕ). m ≤ deviceMost) sums-methane
-      (le-trans (methane-most (heldOf r) (intervalsOf r) ready) (let z : intervalsOf r * litresMost ≤ 35136 * litresMost = mul-le-mul-right litresMost (x .few) in omega arith))
+      (le-trans (methane-most (heldOf r) (intervalsOf r) ready)
+      (let z : intervalsOf r * litresMost ≤ 35136 * litresMost = mul-le-mul-right litresMost (x .few) in omega arith))
 
   -- the last pass, and the account made of its sums
   pub filled : (o f c : List ℕ) (s : Sums) (destroyed uncombusted : ℕ) → Finished (heldOf r) o f c s
@@ -372,8 +386,10 @@ holding r f c =
 
 -- the two series as `fill_series` leaves them: flow's with its own instrument, CH4's with its own
 pub record Filling (r : Records) (f c : List ℕ) : Type 0 where
-  pub flow-filled : f ≡ build (length (r .series .flow)) (filledAt (r .series .flow) (build (length (r .series .flow)) (correctedAt (instrumentOf r 0) (r .series .flow))))
-  pub content-filled : c ≡ build (length (r .series .content)) (filledAt (r .series .content) (build (length (r .series .content)) (correctedAt (instrumentOf r 1) (r .series .content))))
+  pub flow-filled : f ≡ build (length (r .series .flow))
+      (filledAt (r .series .flow) (build (length (r .series .flow)) (correctedAt (instrumentOf r 0) (r .series .flow))))
+  pub content-filled : c ≡ build (length (r .series .content))
+      (filledAt (r .series .content) (build (length (r .series .content)) (correctedAt (instrumentOf r 1) (r .series .content))))
 
 module _ (r : Records) (x : Right r) (f c : List ℕ) (y : Filling r f c) where
   held-is : heldOf r ≡ holding r f c

@@ -17,7 +17,8 @@ use Rattle.rows.proofs.Sums.{sumTo-bound, sumTo-ext}
 use Rattle.columns.specs.Series.{rowOf}
 use Rattle.columns.proofs.Laws as Series
 use Rattle.protocol.specs.Numbers.{methaneMg}
-use Rattle.balance.specs.Balance.{destroyedOf, uncombustedOf, overDevices, baselineAll, carbonDioxideAll, uncombustedAll, baselineMg, carbonDioxideMg, uncombustedMg, deviceMost}
+use Rattle.balance.specs.Balance.{destroyedOf, uncombustedOf, overDevices, baselineAll, carbonDioxideAll, uncombustedAll, baselineMg, carbonDioxideMg}
+use Rattle.balance.specs.Balance.{uncombustedMg, deviceMost}
 use Rattle.balance.proofs.Laws.{destroyed-le, uncombusted-le, baseline-most, carbon-most, uncombusted-most}
 use Rattle.drainage_outcomes.specs.Outcomes.{outcomeKinds}
 use Rattle.drainage_device.specs.Device.{Records, intervalsOf, outcomeAt, flowUsedAt, contentUsedAt, methaneOf, accountOf, Right, Filled}
@@ -33,7 +34,9 @@ pub added-is : (t : Totals) (a : Account) (b c u : ℕ) → b ≡ methaneMg * a 
     → record {
       counted = t .counted + (getD (a .outcomes) 0 0 + getD (a .outcomes) 1 0 + getD (a .outcomes) 2 0);
       replaced = t .replaced + (getD (a .outcomes) 1 0 + getD (a .outcomes) 2 0);
-      excluded = t .excluded + (getD (a .outcomes) 3 0 + getD (a .outcomes) 4 0 + getD (a .outcomes) 5 0 + getD (a .outcomes) 6 0 + getD (a .outcomes) 7 0 + getD (a .outcomes) 8 0 + getD (a .outcomes) 9 0);
+      excluded =
+          t .excluded + (getD (a .outcomes) 3 0 + getD (a .outcomes) 4 0 + getD (a .outcomes) 5 0 + getD (a .outcomes) 6 0 + getD (a .outcomes) 7 0 + getD
+          (a .outcomes) 8 0 + getD (a .outcomes) 9 0);
       methane = t .methane + a .methane;
       destroyed = t .destroyed + a .destroyed;
       uncombusted = t .uncombusted + a .uncombusted;
@@ -56,7 +59,8 @@ added-is t a b c u p q r i =
       «uncombusted_mg» = t .«uncombusted_mg» + r i;
     }
   where
-    same : t .excluded + (getD (a .outcomes) 3 0 + getD (a .outcomes) 4 0 + getD (a .outcomes) 5 0 + getD (a .outcomes) 6 0 + getD (a .outcomes) 7 0 + getD (a .outcomes) 8 0 + getD (a .outcomes) 9 0)
+    same : t .excluded + (getD (a .outcomes) 3 0 + getD (a .outcomes) 4 0 + getD (a .outcomes) 5 0 + getD (a .outcomes) 6 0 + getD (a .outcomes) 7 0 + getD
+        (a .outcomes) 8 0 + getD (a .outcomes) 9 0)
         ≡ t .excluded + sumTo 7 (λ j. getD (a .outcomes) (3 + j) 0)
     same = omega arith
 
@@ -67,10 +71,13 @@ pub record Sums (t : Totals) (a : Account) : Type 0 where
   pub excluded-to-5 : Fits w64 (getD (a .outcomes) 3 0 + getD (a .outcomes) 4 0 + getD (a .outcomes) 5 0)
   pub excluded-to-6 : Fits w64 (getD (a .outcomes) 3 0 + getD (a .outcomes) 4 0 + getD (a .outcomes) 5 0 + getD (a .outcomes) 6 0)
   pub excluded-to-7 : Fits w64 (getD (a .outcomes) 3 0 + getD (a .outcomes) 4 0 + getD (a .outcomes) 5 0 + getD (a .outcomes) 6 0 + getD (a .outcomes) 7 0)
-  pub excluded-to-8 : Fits w64 (getD (a .outcomes) 3 0 + getD (a .outcomes) 4 0 + getD (a .outcomes) 5 0 + getD (a .outcomes) 6 0 + getD (a .outcomes) 7 0 + getD (a .outcomes) 8 0)
-  pub excluded-to-9 : Fits w64 (getD (a .outcomes) 3 0 + getD (a .outcomes) 4 0 + getD (a .outcomes) 5 0 + getD (a .outcomes) 6 0 + getD (a .outcomes) 7 0 + getD (a .outcomes) 8 0 + getD (a .outcomes) 9 0)
+  pub excluded-to-8 : Fits w64 (getD (a .outcomes) 3 0 + getD (a .outcomes) 4 0 + getD (a .outcomes) 5 0 + getD (a .outcomes) 6 0 + getD (a .outcomes) 7 0 +
+      getD (a .outcomes) 8 0)
+  pub excluded-to-9 : Fits w64 (getD (a .outcomes) 3 0 + getD (a .outcomes) 4 0 + getD (a .outcomes) 5 0 + getD (a .outcomes) 6 0 + getD (a .outcomes) 7 0 +
+      getD (a .outcomes) 8 0 + getD (a .outcomes) 9 0)
   pub replaced : Fits w64 (t .replaced + (getD (a .outcomes) 1 0 + getD (a .outcomes) 2 0))
-  pub excluded : Fits w64 (t .excluded + (getD (a .outcomes) 3 0 + getD (a .outcomes) 4 0 + getD (a .outcomes) 5 0 + getD (a .outcomes) 6 0 + getD (a .outcomes) 7 0 + getD (a .outcomes) 8 0 + getD (a .outcomes) 9 0))
+  pub excluded : Fits w64 (t .excluded + (getD (a .outcomes) 3 0 + getD (a .outcomes) 4 0 + getD (a .outcomes) 5 0 + getD (a .outcomes) 6 0 + getD (a .outcomes)
+      7 0 + getD (a .outcomes) 8 0 + getD (a .outcomes) 9 0))
   pub methane : Fits w64 (t .methane + a .methane)
   pub destroyed : Fits w64 (t .destroyed + a .destroyed)
   pub uncombusted : Fits w64 (t .uncombusted + a .uncombusted)
@@ -131,7 +138,8 @@ module _ (l : Lent) (devices : ℕ) (x : Sound l devices) (d : ℕ) (h : d < dev
       getD-build outcomeKinds (countOf (intervalsOf (recordsOf l d)) (outcomeAt (recordsOf l d))) j 0 z
       ∙ ap (λ (n : ℕ). countOf n (outcomeAt (recordsOf l d)) j) row-long
 
-  counted-are : countedIn l d ≡ getD (accountOf (recordsOf l d) .outcomes) 0 0 + getD (accountOf (recordsOf l d) .outcomes) 1 0 + getD (accountOf (recordsOf l d) .outcomes) 2 0
+  counted-are : countedIn l d ≡ getD (accountOf (recordsOf l d) .outcomes) 0 0 + getD (accountOf (recordsOf l d) .outcomes) 1 0 + getD
+      (accountOf (recordsOf l d) .outcomes) 2 0
   unfolding countedIn
   counted-are = sym (ap₂ _+_ (ap₂ _+_ (counts-are 0 (omega arith)) (counts-are 1 (omega arith))) (counts-are 2 (omega arith)))
 
@@ -141,7 +149,8 @@ module _ (l : Lent) (devices : ℕ) (x : Sound l devices) (d : ℕ) (h : d < dev
 
   excluded-are : excludedIn l d ≡ sumTo 7 (λ j. getD (accountOf (recordsOf l d) .outcomes) (3 + j) 0)
   unfolding excludedIn
-  excluded-are = sumTo-ext 7 (λ j. countIn l d (3 + j)) (λ j. getD (accountOf (recordsOf l d) .outcomes) (3 + j) 0) (λ j z. sym (counts-are (3 + j) (omega arith)))
+  excluded-are =
+      sumTo-ext 7 (λ j. countIn l d (3 + j)) (λ j. getD (accountOf (recordsOf l d) .outcomes) (3 + j) 0) (λ j z. sym (counts-are (3 + j) (omega arith)))
 
   -- the totals with one device more
   pub totals-more : totalsOf l (suc d) ≡ added (totalsOf l d) (accountOf (recordsOf l d))
@@ -204,12 +213,23 @@ module _ (l : Lent) (devices : ℕ) (x : Sound l devices) where
         methane-most = methane;
         destroyed-most = le-trans destroyed methane;
         uncombusted-most = le-trans uncombusted methane;
-        counted-room = sum-room (countedIn l) 200000 (omega arith) d (omega arith) (λ k z. let a = count-least k 0 (below k z) in let b = count-least k 1 (below k z) in let c = count-least k 2 (below k z) in omega arith);
-        replaced-room = sum-room (replacedIn l) 200000 (omega arith) d (omega arith) (λ k z. let b = count-least k 1 (below k z) in let c = count-least k 2 (below k z) in omega arith);
-        excluded-room = sum-room (excludedIn l) 300000 (omega arith) d (omega arith) (λ k z. let s : sumTo 7 (λ j. countIn l k (3 + j)) ≤ 7 * 35136 = sumTo-bound 7 35136 (λ j. countIn l k (3 + j)) (λ j y. count-least k (3 + j) (below k z)) in omega arith);
+        counted-room =
+            sum-room (countedIn l) 200000 (omega arith) d (omega arith)
+            (λ k z. let a = count-least k 0 (below k z) in let b = count-least k 1 (below k z) in let c = count-least k 2 (below k z) in omega arith);
+        replaced-room =
+            sum-room (replacedIn l) 200000 (omega arith) d (omega arith)
+            (λ k z. let b = count-least k 1 (below k z) in let c = count-least k 2 (below k z) in omega arith);
+        excluded-room =
+            sum-room (excludedIn l) 300000 (omega arith) d (omega arith)
+            (λ k z. let s : sumTo 7 (λ j. countIn l k (3 + j)) ≤ 7 * 35136 = sumTo-bound 7 35136 (λ j. countIn l k (3 + j))
+            (λ j y. count-least k (3 + j) (below k z)) in omega arith);
         methane-room = sum-room (litresIn l) deviceMost (omega arith) d (omega arith) (λ k z. litres-most l devices x k (below k z));
-        destroyed-room = sum-room (λ k. destroyedOf (kindIn l k) (litresIn l k)) deviceMost (omega arith) d (omega arith) (λ k z. le-trans (destroyed-le (kindIn l k) (litresIn l k)) (litres-most l devices x k (below k z)));
-        uncombusted-room = sum-room (λ k. uncombustedOf (kindIn l k) (litresIn l k)) deviceMost (omega arith) d (omega arith) (λ k z. le-trans (uncombusted-le (kindIn l k) (litresIn l k)) (litres-most l devices x k (below k z)));
+        destroyed-room =
+            sum-room (λ k. destroyedOf (kindIn l k) (litresIn l k)) deviceMost (omega arith) d (omega arith)
+            (λ k z. le-trans (destroyed-le (kindIn l k) (litresIn l k)) (litres-most l devices x k (below k z)));
+        uncombusted-room =
+            sum-room (λ k. uncombustedOf (kindIn l k) (litresIn l k)) deviceMost (omega arith) d (omega arith)
+            (λ k z. le-trans (uncombusted-le (kindIn l k) (litresIn l k)) (litres-most l devices x k (below k z)));
         baseline-room = let z = baseline-most d (kindIn l) (litresIn l) small (λ k y. litres-most l devices x k (below k y)) in omega arith;
         co2-room = let z = carbon-most d (kindIn l) (litresIn l) small (λ k y. litres-most l devices x k (below k y)) in omega arith;
         uncombusted-mg-room = let z = uncombusted-most d (kindIn l) (litresIn l) small (λ k y. litres-most l devices x k (below k y)) in omega arith;

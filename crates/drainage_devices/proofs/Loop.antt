@@ -15,7 +15,8 @@ use Rattle.balance.specs.Balance.{baselineAll, carbonDioxideAll, uncombustedAll
 use Rattle.drainage_device.specs.Device.{accountOf, outcomeAt, flowUsedAt, contentUsedAt}
 use Rattle.drainage_device.specs.declared.Account.{Account}
 use Rattle.drainage_devices.specs.declared.Totals.{Totals}
-use Rattle.drainage_devices.specs.Devices.{Lent, Results, recordsOf, outcomePart, flowPart, contentPart, accountPart, accountSize, numbersOf, resultsOf, Sound}
+use Rattle.drainage_devices.specs.Devices.{Lent, Results, recordsOf, outcomePart, flowPart, contentPart, accountPart, accountSize, numbersOf, resultsOf}
+use Rattle.drainage_devices.specs.Devices.{Sound}
 use Rattle.drainage_devices.specs.Totals.{totalsOf, AllWritten}
 use Rattle.drainage_devices.specs.Private.{Written, added, Room}
 use Rattle.drainage_devices.proofs.Laws.{totals-more, room-for, account-ten, numbers-long}
@@ -64,8 +65,11 @@ pub record Going (l : Lent) (devices : ℕ) (before after : Results) (t : Totals
 
 part-long : (l : Lent) (k : ℕ) → (length (outcomePart l k) ≡ l .intervals) × (length (flowPart l k) ≡ l .intervals) × (length (contentPart l k) ≡ l .intervals)
 unfolding outcomePart flowPart contentPart
-part-long l k =
-    (length-build (l .intervals) (outcomeAt (recordsOf l k)), length-build (l .intervals) (flowUsedAt (recordsOf l k)), length-build (l .intervals) (contentUsedAt (recordsOf l k)))
+part-long l k = (
+  length-build (l .intervals) (outcomeAt (recordsOf l k)),
+  length-build (l .intervals) (flowUsedAt (recordsOf l k)),
+  length-build (l .intervals) (contentUsedAt (recordsOf l k)),
+)
 
 -- a device has thirteen numbers
 pub account-long : (l : Lent) (k : ℕ) → length (accountPart l k) ≡ accountSize
@@ -97,9 +101,13 @@ module _ (l : Lent) (devices : ℕ) (before : Results) where
         record {
           within = omega arith;
           sound = x .sound;
-          outcomes = row-step (l .intervals) devices (outcomePart l) (before .outcome) (now .outcome) (new .outcome) d (λ k. part-long l k .0) h (x .outcomes) (w .outcome-row);
+          outcomes =
+              row-step (l .intervals) devices (outcomePart l) (before .outcome) (now .outcome) (new .outcome) d (λ k. part-long l k .0) h (x .outcomes)
+              (w .outcome-row);
           flows = row-step (l .intervals) devices (flowPart l) (before .flow) (now .flow) (new .flow) d (λ k. part-long l k .1) h (x .flows) (w .flow-row);
-          contents = row-step (l .intervals) devices (contentPart l) (before .content) (now .content) (new .content) d (λ k. part-long l k .2) h (x .contents) (w .content-row);
+          contents =
+              row-step (l .intervals) devices (contentPart l) (before .content) (now .content) (new .content) d (λ k. part-long l k .2) h (x .contents)
+              (w .content-row);
           accounts =
               row-step accountSize devicesMost (accountPart l) (before .accounts) (now .accounts) (new .accounts) d (account-long l) (few h) (x .accounts)
               (k ∙ ap (λ (b : Account). put (now .accounts) (d * accountSize) (d * accountSize + accountSize) (numbersOf b)) (w .account));
@@ -118,7 +126,8 @@ module _ (l : Lent) (devices : ℕ) (before : Results) where
     pub going-room : (a : Account) → d < devices → a ≡ accountOf (recordsOf l d) → Room t a
     going-room a h e = subst₂ Room (sym (x .totals)) (sym e) (room-for l devices (x .sound) d h)
 
-    pub going-place : (a : Account) → d < devices → a ≡ accountOf (recordsOf l d) → (d < devicesMost) × (length (a .outcomes) ≡ outcomeKinds) × (length (now .accounts) ≡ devicesMost * accountSize)
+    pub going-place : (a : Account) → d < devices → a ≡ accountOf (recordsOf l d) → (d < devicesMost) × (length (a .outcomes) ≡ outcomeKinds) ×
+        (length (now .accounts) ≡ devicesMost * accountSize)
     going-place a h e =
         (let z = x .sound .few-devices in omega arith, ap (λ (b : Account). length (b .outcomes)) e ∙ account-ten (recordsOf l d), x .accounts .long)
 
@@ -138,6 +147,8 @@ module _ (l : Lent) (devices : ℕ) (before : Results) where
         }
 
 -- no device, nothing yet
-pub totals-none : (l : Lent) → record { counted = 0; replaced = 0; excluded = 0; methane = 0; destroyed = 0; uncombusted = 0; «baseline_mg» = 0; «co2_mg» = 0; «uncombusted_mg» = 0 } ≡ totalsOf l 0
+pub totals-none : (l : Lent) →
+    record { counted = 0; replaced = 0; excluded = 0; methane = 0; destroyed = 0; uncombusted = 0; «baseline_mg» = 0; «co2_mg» = 0; «uncombusted_mg» = 0 } ≡
+    totalsOf l 0
 unfolding totalsOf baselineAll carbonDioxideAll uncombustedAll
 totals-none l = refl

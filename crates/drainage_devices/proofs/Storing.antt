@@ -61,7 +61,9 @@ storing-none a old d h t e =
       long = refl;
       ten = t;
       within = omega arith;
-      stored = sym (lib.ListN.take-append-drop (d * accountSize) old) ∙ ap (λ (m : ℕ). take (d * accountSize) old ++ drop m old) (let z : d * accountSize ≡ d * accountSize + 0 = omega arith in z);
+      stored =
+          sym (lib.ListN.take-append-drop (d * accountSize) old) ∙ ap (λ (m : ℕ). take (d * accountSize) old ++ drop m old)
+          (let z : d * accountSize ≡ d * accountSize + 0 = omega arith in z);
     }
 
 module _ {a : Account} {old : List ℕ} {at : ℕ} {now : List ℕ} {j : ℕ} (x : Storing a old at now j) where
@@ -103,7 +105,9 @@ module _ {a : Account} {old : List ℕ} {at : ℕ} {now : List ℕ} {j : ℕ} (x
       long-1 = length-append os (a .methane ∷ []) ∙ ap (λ (m : ℕ). m + 1) ten
 
       second : set (set now (at + 10) (a .methane)) (at + 10 + 1) (a .destroyed) ≡ over old at ((os ++ (a .methane ∷ [])) ++ (a .destroyed ∷ []))
-      second = over-next old (set now (at + 10) (a .methane)) at (os ++ (a .methane ∷ [])) (a .destroyed) (at + 10 + 1) (omega (arith, long-1)) (omega (arith, long-1, x .room)) first
+      second =
+          over-next old (set now (at + 10) (a .methane)) at (os ++ (a .methane ∷ [])) (a .destroyed) (at + 10 + 1) (omega (arith, long-1))
+          (omega (arith, long-1, x .room)) first
 
       long-2 : length ((os ++ (a .methane ∷ [])) ++ (a .destroyed ∷ [])) ≡ 12
       long-2 = length-append (os ++ (a .methane ∷ [])) (a .destroyed ∷ []) ∙ ap (λ (m : ℕ). m + 1) long-1
@@ -111,11 +115,14 @@ module _ {a : Account} {old : List ℕ} {at : ℕ} {now : List ℕ} {j : ℕ} (x
       third : set (set (set now (at + 10) (a .methane)) (at + 10 + 1) (a .destroyed)) (at + 10 + 2) (a .uncombusted)
           ≡ over old at (((os ++ (a .methane ∷ [])) ++ (a .destroyed ∷ [])) ++ (a .uncombusted ∷ []))
       third =
-          over-next old (set (set now (at + 10) (a .methane)) (at + 10 + 1) (a .destroyed)) at ((os ++ (a .methane ∷ [])) ++ (a .destroyed ∷ [])) (a .uncombusted) (at + 10 + 2)
+          over-next old (set (set now (at + 10) (a .methane)) (at + 10 + 1) (a .destroyed)) at ((os ++ (a .methane ∷ [])) ++ (a .destroyed ∷ []))
+          (a .uncombusted) (at + 10 + 2)
           (omega (arith, long-2)) (omega (arith, long-2, x .room)) second
 
       joined : ((os ++ (a .methane ∷ [])) ++ (a .destroyed ∷ [])) ++ (a .uncombusted ∷ []) ≡ numbersOf a
-      joined = append-assoc (os ++ (a .methane ∷ [])) (a .destroyed ∷ []) (a .uncombusted ∷ []) ∙ append-assoc os (a .methane ∷ []) (a .destroyed ∷ a .uncombusted ∷ [])
+      joined =
+          append-assoc (os ++ (a .methane ∷ [])) (a .destroyed ∷ []) (a .uncombusted ∷ []) ∙ append-assoc os (a .methane ∷ [])
+          (a .destroyed ∷ a .uncombusted ∷ [])
 
       rest : drop (at + length (numbersOf a)) old ≡ drop (at + accountSize - at) (drop at old)
       rest =

@@ -11,11 +11,13 @@ use Rattle.rows.proofs.Sums.{sumTo-add, sumTo-mul, sumTo-const}
 use Rattle.protocol.specs.Numbers.{protocol, methaneMg}
 use Rattle.protocol.specs.Ranges.{kelvinOf, contentMost}
 use Rattle.volume.specs.Volume.{litresOf, methaneOf, methaneLitres}
-use Rattle.balance.specs.Balance.{destroyedOf, uncombustedOf, baselineMg, carbonDioxideMg, uncombustedMg, fuelMg, baselineAll, carbonDioxideAll, uncombustedAll, reductionOf, reductionAll, tonnesOf}
+use Rattle.balance.specs.Balance.{destroyedOf, uncombustedOf, baselineMg, carbonDioxideMg, uncombustedMg, fuelMg, baselineAll, carbonDioxideAll}
+use Rattle.balance.specs.Balance.{uncombustedAll, reductionOf, reductionAll, tonnesOf}
 use Rattle.protocol.proofs.Integers.{is-sub}
 use Rattle.balance.proofs.Laws.{reduction-ext}
 use Rattle.fractions.specs.Fraction.{Fraction, over, asFraction, _-ᶠ_, _*ᶠ_, sumᶠ}
-use Rattle.drainage_exact.specs.Exact.{Used, Possible, exactLitres, exactMethane, exactQ, exactDeviceMg, exactReduction, reportedQ, reportedTonnes, intervalMg, deviceMg, promised}
+use Rattle.drainage_exact.specs.Exact.{Used, Possible, exactLitres, exactMethane, exactQ, exactDeviceMg, exactReduction, reportedQ, reportedTonnes}
+use Rattle.drainage_exact.specs.Exact.{intervalMg, deviceMg, promised}
 use Rattle.fractions.specs.Fair.{Fair}
 use Rattle.fractions.proofs.Near.{Near, near-all, near-minus, near-fair}
 use Rattle.fractions.proofs.Close.{Close, close-row, close-interval}

@@ -55,7 +55,8 @@ lost u v k p n q i interval z t h f =
         → u * (v * (n * (q * k))) + v * (i * (1 + u) * n) * 995 ≤ u * (v * (n * (q * k)) + 4000 * (interval * (i * n)))
     third h =
         let g : i * n * (v * 995 * (1 + u)) ≤ i * n * (4000 * u * interval) = mul-le-mul-left (i * n) h in
-        let y : u * (v * (n * (q * k)) + 4000 * (interval * (i * n))) ≡ u * (v * (n * (q * k))) + u * (4000 * (interval * (i * n))) = mul-add u (v * (n * (q * k))) (4000 * (interval * (i * n))) in
+        let y : u * (v * (n * (q * k)) + 4000 * (interval * (i * n))) ≡ u * (v * (n * (q * k))) + u * (4000 * (interval * (i * n))) = mul-add u
+        (v * (n * (q * k))) (4000 * (interval * (i * n))) in
         omega arith
 
 -- an upper bound of what the device loses, interval * i + device mg in all

@@ -19,7 +19,8 @@ use Rattle.volume.proofs.Laws.{methane-litres-most, no-flow}
 use Rattle.drainage_runs.specs.Runs.{tooLong, notWhole}
 use Rattle.drainage_runs.specs.Private.{excluding}
 use Rattle.drainage_outcomes.specs.declared.Sums.{Sums}
-use Rattle.drainage_outcomes.specs.Outcomes.{outcomeKinds, outcomeOf, allMeasured, counted, litresFor, heldOutcome, entryOf, entryAt, sumsOf, Held, Holds, Ready, ReadyAt, Finished}
+use Rattle.drainage_outcomes.specs.Outcomes.{outcomeKinds, outcomeOf, allMeasured, counted, litresFor, heldOutcome, entryOf, entryAt, sumsOf, Held}
+use Rattle.drainage_outcomes.specs.Outcomes.{Holds, Ready, ReadyAt, Finished}
 use Rattle.rows.proofs.Truth.{clash}
 
 -- ---- one interval
@@ -136,7 +137,8 @@ pub measured-outcome : (flow content : ℕ) (temp : ℤ) (press status flowHeld 
     → 0 ≡ outcomeFor flow content temp press status flowHeld contentHeld
 unfolding outcomeOf allMeasured
 measured-outcome flow content temp press status flowHeld contentHeld e =
-    all-there (eqb status 0) (eqb status 3) (either (tempMissing temp) (pressMissing press)) (eqb flow mark) (eqb content mark) (eqb status 1) (heldOutcome 1 flowHeld) (heldOutcome 2 contentHeld) e
+    all-there (eqb status 0) (eqb status 3) (either (tempMissing temp) (pressMissing press)) (eqb flow mark) (eqb content mark) (eqb status 1)
+    (heldOutcome 1 flowHeld) (heldOutcome 2 contentHeld) e
 
 module _ (flow content : ℕ) (temp : ℤ) (press status flowHeld contentHeld : ℕ) (x : Ready flow content temp press flowHeld contentHeld) where
   -- the values of a counted interval are in range, so that its litres fit
@@ -144,7 +146,8 @@ module _ (flow content : ℕ) (temp : ℤ) (press status flowHeld contentHeld : 
       → Inside flowHeld temp press × (contentHeld ≤ contentMost)
   unfolding outcomeOf
   counted-inside h =
-      let y = counts (eqb status 0) (eqb status 3) (either (tempMissing temp) (pressMissing press)) (eqb flow mark) (eqb content mark) (eqb status 1) (heldOutcome 1 flowHeld) (heldOutcome 2 contentHeld) h in
+      let y = counts (eqb status 0) (eqb status 3) (either (tempMissing temp) (pressMissing press)) (eqb flow mark) (eqb content mark) (eqb status 1)
+      (heldOutcome 1 flowHeld) (heldOutcome 2 contentHeld) h in
       let m = either-false-both (tempMissing temp) (pressMissing press) (y .has) in
       let k = kelvin-bounds temp (x .temp-right) (m .0) in (
         record {
@@ -160,7 +163,8 @@ module _ (flow content : ℕ) (temp : ℤ) (press status flowHeld contentHeld : 
   pub outcome-few : outcomeFor flow content temp press status flowHeld contentHeld < 10
   unfolding outcomeOf
   outcome-few =
-      few (eqb status 0) (eqb status 3) (either (tempMissing temp) (pressMissing press)) (eqb flow mark) (eqb content mark) (eqb status 1) (heldOutcome 1 flowHeld) (heldOutcome 2 contentHeld)
+      few (eqb status 0) (eqb status 3) (either (tempMissing temp) (pressMissing press)) (eqb flow mark) (eqb content mark) (eqb status 1)
+      (heldOutcome 1 flowHeld) (heldOutcome 2 contentHeld)
       (held-few flow flowHeld flowMost 1 (x .flow-held) (omega arith))
       (held-few content contentHeld contentMost 2 (x .content-held) (omega arith))
 
@@ -172,7 +176,8 @@ module _ (flow content : ℕ) (temp : ℤ) (press status flowHeld contentHeld : 
   unfolding entryOf litresFor
   entry-litres = go (ltb (outcomeFor flow content temp press status flowHeld contentHeld) 3) refl
     where
-      go : (t : Bool) → ltb (outcomeFor flow content temp press status flowHeld contentHeld) 3 ≡ t → pick t (methaneLitres flowHeld contentHeld temp press) 0 ≤ litresMost
+      go : (t : Bool) → ltb (outcomeFor flow content temp press status flowHeld contentHeld) 3 ≡ t → pick t (methaneLitres flowHeld contentHeld temp press) 0 ≤
+          litresMost
       go true e =
           let y = counted-inside (ltb-true (outcomeFor flow content temp press status flowHeld contentHeld) 3 e) in
           methane-litres-most flowHeld contentHeld temp press (y .0) (y .1)
@@ -181,7 +186,8 @@ module _ (flow content : ℕ) (temp : ℤ) (press status flowHeld contentHeld : 
 -- an entry as the code makes it, by whether the interval is counted
 module _ (flow content : ℕ) (temp : ℤ) (press status flowHeld contentHeld o : ℕ) (e : o ≡ outcomeFor flow content temp press status flowHeld contentHeld) where
   shown : (t : Bool) → ltb o 3 ≡ t → (litres : ℕ) → litres ≡ pick t (methaneLitres flowHeld contentHeld temp press) 0
-      → record { outcome = o; flow = pick t flowHeld 0; content = pick t contentHeld 0; litres = litres } ≡ entryOf flow content temp press status flowHeld contentHeld
+      → record { outcome = o; flow = pick t flowHeld 0; content = pick t contentHeld 0; litres = litres } ≡ entryOf flow content temp press status flowHeld
+      contentHeld
   unfolding entryOf litresFor
   shown t q litres l =
       let z : ltb (outcomeFor flow content temp press status flowHeld contentHeld) 3 ≡ t = subst (λ (k : ℕ). ltb k 3 ≡ t) e q in
@@ -205,13 +211,15 @@ module _ (flow content : ℕ) (temp : ℤ) (press status flowHeld contentHeld o 
 pub outcome-of-ten : (h : Held) (n : ℕ) → ReadyAt h n → (i : ℕ) → i < n → entryAt h i .outcome < 10
 unfolding entryAt
 outcome-of-ten h n x i l =
-    entry-few (getD (h .series .flow) i mark) (getD (h .series .content) i mark) (getD (h .series .temp) i (pos 0)) (getD (h .series .press) i 0) (getD (h .series .status) i 0)
+    entry-few (getD (h .series .flow) i mark) (getD (h .series .content) i mark) (getD (h .series .temp) i (pos 0)) (getD (h .series .press) i 0)
+    (getD (h .series .status) i 0)
     (getD (h .flow-held) i mark) (getD (h .content-held) i mark) (x .ready i l)
 
 pub litres-of-entry : (h : Held) (n : ℕ) → ReadyAt h n → (i : ℕ) → i < n → entryAt h i .litres ≤ litresMost
 unfolding entryAt
 litres-of-entry h n x i l =
-    entry-litres (getD (h .series .flow) i mark) (getD (h .series .content) i mark) (getD (h .series .temp) i (pos 0)) (getD (h .series .press) i 0) (getD (h .series .status) i 0)
+    entry-litres (getD (h .series .flow) i mark) (getD (h .series .content) i mark) (getD (h .series .temp) i (pos 0)) (getD (h .series .press) i 0)
+    (getD (h .series .status) i 0)
     (getD (h .flow-held) i mark) (getD (h .content-held) i mark) (x .ready i l)
 
 -- the methane of the first i intervals
@@ -247,7 +255,8 @@ pub counted-used : (h : Held) (n : ℕ) → ReadyAt h n → (i : ℕ) → i < n 
     → Inside (entryAt h i .flow) (getD (h .series .temp) i (pos 0)) (getD (h .series .press) i 0) × (entryAt h i .content ≤ contentMost)
 unfolding entryAt entryOf
 counted-used h n x i l e =
-    let y = counted-inside (getD (h .series .flow) i mark) (getD (h .series .content) i mark) (getD (h .series .temp) i (pos 0)) (getD (h .series .press) i 0) (getD (h .series .status) i 0) (getD (h .flow-held) i mark) (getD (h .content-held) i mark) (x .ready i l) (ltb-true (entryAt h i .outcome) 3 e) in
+    let y = counted-inside (getD (h .series .flow) i mark) (getD (h .series .content) i mark) (getD (h .series .temp) i (pos 0)) (getD (h .series .press) i 0)
+    (getD (h .series .status) i 0) (getD (h .flow-held) i mark) (getD (h .content-held) i mark) (x .ready i l) (ltb-true (entryAt h i .outcome) 3 e) in
     simp e y
 
 -- an excluded interval's used values are 0
@@ -257,12 +266,15 @@ unfolding entryAt entryOf litresFor
 excluded-used h i e = (simp e, simp e, simp e)
 
 -- an interval's litres are those of its used values, counted or not
-pub litres-of-used : (h : Held) (i : ℕ) → entryAt h i .litres ≡ methaneLitres (entryAt h i .flow) (entryAt h i .content) (getD (h .series .temp) i (pos 0)) (getD (h .series .press) i 0)
+pub litres-of-used : (h : Held) (i : ℕ) → entryAt h i .litres ≡ methaneLitres (entryAt h i .flow) (entryAt h i .content) (getD (h .series .temp) i (pos 0))
+    (getD (h .series .press) i 0)
 unfolding entryAt entryOf litresFor
 litres-of-used h i = go (counted (entryAt h i .outcome))
   where
-    go : (t : Bool) → pick t (methaneLitres (getD (h .flow-held) i mark) (getD (h .content-held) i mark) (getD (h .series .temp) i (pos 0)) (getD (h .series .press) i 0)) 0
-        ≡ methaneLitres (pick t (getD (h .flow-held) i mark) 0) (pick t (getD (h .content-held) i mark) 0) (getD (h .series .temp) i (pos 0)) (getD (h .series .press) i 0)
+    go : (t : Bool) → pick t (methaneLitres (getD (h .flow-held) i mark) (getD (h .content-held) i mark) (getD (h .series .temp) i (pos 0))
+        (getD (h .series .press) i 0)) 0
+        ≡ methaneLitres (pick t (getD (h .flow-held) i mark) 0) (pick t (getD (h .content-held) i mark) 0) (getD (h .series .temp) i (pos 0))
+        (getD (h .series .press) i 0)
     go true = refl
     go false = sym (no-flow 0 (getD (h .series .temp) i (pos 0)) (getD (h .series .press) i 0))
 

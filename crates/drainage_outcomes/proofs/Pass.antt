@@ -63,33 +63,40 @@ module _ {h : Held} {n : ℕ} {old o f c counts : List ℕ} {methane i : ℕ} (x
       (let z : length (h .content-held) ≡ n = x .ready .content-rows in omega arith)
 
   -- what is read there, the temperature as the code has it, is ready
-  pub reads-ready : (t : ℤ) → t ≡ getD (h .series .temp) i (pos 0) → Ready (getD (h .series .flow) i 0) (getD (h .series .content) i 0) t (getD (h .series .press) i 0) (getD f i 0) (getD c i 0)
+  pub reads-ready : (t : ℤ) → t ≡ getD (h .series .temp) i (pos 0) → Ready (getD (h .series .flow) i 0) (getD (h .series .content) i 0) t
+      (getD (h .series .press) i 0) (getD f i 0) (getD c i 0)
   reads-ready t e = rw (e, at-flow, at-content, at-flow-held, at-content-held) (x .ready .ready i l)
 
   -- and its entry is the interval's
   pub reads-entry : (t : ℤ) → t ≡ getD (h .series .temp) i (pos 0) → (r : Entry)
-      → r ≡ entryOf (getD (h .series .flow) i 0) (getD (h .series .content) i 0) t (getD (h .series .press) i 0) (getD (h .series .status) i 0) (getD f i 0) (getD c i 0) → r ≡ entryAt h i
+      → r ≡ entryOf (getD (h .series .flow) i 0) (getD (h .series .content) i 0) t (getD (h .series .press) i 0) (getD (h .series .status) i 0) (getD f i 0)
+      (getD c i 0) → r ≡ entryAt h i
   unfolding entryAt
   reads-entry t e r q = rw (e, at-flow, at-content, at-flow-held, at-content-held) at q
 
   -- where the code answered that everything is measured, what is held is in range, and it is the entry
   module _ (t : ℤ) (e : t ≡ getD (h .series .temp) i (pos 0)) (b : Bool)
-      (q : b ≡ allMeasured (getD (h .series .flow) i 0) (getD (h .series .content) i 0) t (getD (h .series .press) i 0) (getD (h .series .status) i 0)) (m : b ≡ true) where
-    none : 0 ≡ outcomeFor (getD (h .series .flow) i 0) (getD (h .series .content) i 0) t (getD (h .series .press) i 0) (getD (h .series .status) i 0) (getD f i 0) (getD c i 0)
+      (q : b ≡ allMeasured (getD (h .series .flow) i 0) (getD (h .series .content) i 0) t (getD (h .series .press) i 0) (getD (h .series .status) i 0))
+      (m : b ≡ true) where
+    none : 0 ≡ outcomeFor (getD (h .series .flow) i 0) (getD (h .series .content) i 0) t (getD (h .series .press) i 0) (getD (h .series .status) i 0)
+        (getD f i 0) (getD c i 0)
     none =
-        measured-outcome (getD (h .series .flow) i 0) (getD (h .series .content) i 0) t (getD (h .series .press) i 0) (getD (h .series .status) i 0) (getD f i 0) (getD c i 0)
+        measured-outcome (getD (h .series .flow) i 0) (getD (h .series .content) i 0) t (getD (h .series .press) i 0) (getD (h .series .status) i 0)
+        (getD f i 0) (getD c i 0)
         (sym q ∙ m)
 
     pub measured-inside : Inside (getD f i 0) t (getD (h .series .press) i 0) × (getD c i 0 ≤ contentMost)
     measured-inside =
-        counted-inside (getD (h .series .flow) i 0) (getD (h .series .content) i 0) t (getD (h .series .press) i 0) (getD (h .series .status) i 0) (getD f i 0) (getD c i 0)
+        counted-inside (getD (h .series .flow) i 0) (getD (h .series .content) i 0) t (getD (h .series .press) i 0) (getD (h .series .status) i 0) (getD f i 0)
+        (getD c i 0)
         (reads-ready t e) (subst (λ (k : ℕ). k < 3) none (let w : 0 < 3 = omega arith in w))
 
     pub measured-entry : (litres : ℕ) → litres ≡ methaneLitres (getD f i 0) (getD c i 0) t (getD (h .series .press) i 0)
         → record { outcome = 0; flow = getD f i 0; content = getD c i 0; litres = litres } ≡ entryAt h i
     measured-entry litres z =
         reads-entry t e (record { outcome = 0; flow = getD f i 0; content = getD c i 0; litres = litres })
-        (counted-entry (getD (h .series .flow) i 0) (getD (h .series .content) i 0) t (getD (h .series .press) i 0) (getD (h .series .status) i 0) (getD f i 0) (getD c i 0)
+        (counted-entry (getD (h .series .flow) i 0) (getD (h .series .content) i 0) t (getD (h .series .press) i 0) (getD (h .series .status) i 0) (getD f i 0)
+        (getD c i 0)
         0 none (omega arith) litres z)
 
 -- ---- start, step and end
@@ -163,17 +170,26 @@ module _ {h : Held} {n : ℕ} {old o f c counts : List ℕ} {methane i : ℕ} (x
   going-slot l e q = let k : e .outcome < 10 = going-few l e q in (record { fits = omega arith }, record { fits = omega arith })
 
   pub going-more : i < n → (e : Entry) → e ≡ entryAt h i
-      → Going h n old (set o i (e .outcome)) (set f i (e .flow)) (set c i (e .content)) (set counts (e .outcome) (getD counts (e .outcome) 0 + 1)) (methane + e .litres) (i + 1)
+      → Going h n old (set o i (e .outcome)) (set f i (e .flow)) (set c i (e .content)) (set counts (e .outcome) (getD counts (e .outcome) 0 + 1))
+      (methane + e .litres) (i + 1)
   going-more l e q =
       record {
         ready = x .ready;
         old-length = x .old-length;
         within = omega arith;
-        outcome-row = row-more i (λ k. entryAt h k .outcome) old o (e .outcome) (x .outcome-row) (let z : length old ≡ n = x .old-length in omega arith) (ap (λ (y : Entry). y .outcome) q);
-        flow-row = row-more i (λ k. entryAt h k .flow) (h .flow-held) f (e .flow) (x .flow-row) (let z : length (h .flow-held) ≡ n = x .ready .flow-rows in omega arith) (ap (λ (y : Entry). y .flow) q);
-        content-row = row-more i (λ k. entryAt h k .content) (h .content-held) c (e .content) (x .content-row) (let z : length (h .content-held) ≡ n = x .ready .content-rows in omega arith) (ap (λ (y : Entry). y .content) q);
+        outcome-row =
+            row-more i (λ k. entryAt h k .outcome) old o (e .outcome) (x .outcome-row) (let z : length old ≡ n = x .old-length in omega arith)
+            (ap (λ (y : Entry). y .outcome) q);
+        flow-row =
+            row-more i (λ k. entryAt h k .flow) (h .flow-held) f (e .flow) (x .flow-row)
+            (let z : length (h .flow-held) ≡ n = x .ready .flow-rows in omega arith) (ap (λ (y : Entry). y .flow) q);
+        content-row =
+            row-more i (λ k. entryAt h k .content) (h .content-held) c (e .content) (x .content-row)
+            (let z : length (h .content-held) ≡ n = x .ready .content-rows in omega arith) (ap (λ (y : Entry). y .content) q);
         ten = length-set counts (e .outcome) (getD counts (e .outcome) 0 + 1) ∙ x .ten;
-        each = λ j z. count-more i (λ k. entryAt h k .outcome) counts (e .outcome) j (ap (λ (y : Entry). y .outcome) q) (subst (λ (m : ℕ). e .outcome < m) (sym (x .ten)) (going-few l e q)) (x .each j z);
+        each =
+            λ j z. count-more i (λ k. entryAt h k .outcome) counts (e .outcome) j (ap (λ (y : Entry). y .outcome) q)
+            (subst (λ (m : ℕ). e .outcome < m) (sym (x .ten)) (going-few l e q)) (x .each j z);
         sum = sum-more i (λ k. entryAt h k .litres) methane (e .litres) (x .sum) (ap (λ (y : Entry). y .litres) q);
       }
 
@@ -183,7 +199,8 @@ module _ {h : Held} {n : ℕ} {old o f c counts : List ℕ} {methane i : ℕ} (x
   going-kept l e q a b =
       subst (λ (r : List ℕ). Going h n old (set o i (e .outcome)) r c (set counts (e .outcome) (getD counts (e .outcome) 0 + 1)) (methane + e .litres) (i + 1))
       (ap (set f i) a ∙ set-getD f i 0)
-      (subst (λ (r : List ℕ). Going h n old (set o i (e .outcome)) (set f i (e .flow)) r (set counts (e .outcome) (getD counts (e .outcome) 0 + 1)) (methane + e .litres) (i + 1))
+      (subst (λ (r : List ℕ). Going h n old (set o i (e .outcome)) (set f i (e .flow)) r (set counts (e .outcome) (getD counts (e .outcome) 0 + 1))
+      (methane + e .litres) (i + 1))
       (ap (set c i) b ∙ set-getD c i 0)
       (going-more l e q))
 
@@ -228,7 +245,8 @@ module _ {h : Held} {n : ℕ} {old o f c counts : List ℕ} {methane i : ℕ} (x
         sums = λ t. record { outcomes = tens at t; methane = (x .sum ∙ ap (λ (m : ℕ). sumTo m (λ k. entryAt h k .litres)) at) t };
       }
     where
-      done : (base : List ℕ) (g : ℕ → ℕ) (row : List ℕ) → i ≡ length (h .series .flow) → row ≡ build i g ++ drop i base → length base ≡ length (h .series .flow) → row ≡ build (length (h .series .flow)) g
+      done : (base : List ℕ) (g : ℕ → ℕ) (row : List ℕ) → i ≡ length (h .series .flow) → row ≡ build i g ++ drop i base → length base ≡ length
+          (h .series .flow) → row ≡ build (length (h .series .flow)) g
       done base g row at e s = e ∙ ap (λ (m : ℕ). build m g ++ drop m base) at ∙ build-done (length (h .series .flow)) g base s
 
       tens : i ≡ length (h .series .flow) → counts ≡ build outcomeKinds (countOf (length (h .series .flow)) (λ k. entryAt h k .outcome))

@@ -73,7 +73,8 @@ entryOf flow content temp press status flowHeld contentHeld =
 
 unfoldable pub entryAt : Held → ℕ → Entry
 entryAt h i =
-    entryOf (getD (h .series .flow) i mark) (getD (h .series .content) i mark) (getD (h .series .temp) i (pos 0)) (getD (h .series .press) i 0) (getD (h .series .status) i 0)
+    entryOf (getD (h .series .flow) i mark) (getD (h .series .content) i mark) (getD (h .series .temp) i (pos 0)) (getD (h .series .press) i 0)
+    (getD (h .series .status) i 0)
     (getD (h .flow-held) i mark) (getD (h .content-held) i mark)
 
 -- rule 8.6: how many intervals have each outcome, beside the sum of their litres
@@ -100,7 +101,8 @@ pub record ReadyAt (h : Held) (n : ℕ) : Type 0 where
   pub long : Long (h .series) n
   pub flow-rows : length (h .flow-held) ≡ n
   pub content-rows : length (h .content-held) ≡ n
-  pub ready : (i : ℕ) → i < n → Ready (getD (h .series .flow) i mark) (getD (h .series .content) i mark) (getD (h .series .temp) i (pos 0)) (getD (h .series .press) i 0) (getD (h .flow-held) i mark) (getD (h .content-held) i mark)
+  pub ready : (i : ℕ) → i < n → Ready (getD (h .series .flow) i mark) (getD (h .series .content) i mark) (getD (h .series .temp) i (pos 0))
+      (getD (h .series .press) i 0) (getD (h .flow-held) i mark) (getD (h .content-held) i mark)
 
 -- the three rows and the sums after the last pass
 pub record Finished (h : Held) (outcomeRow flowRow contentRow : List ℕ) (given : Sums) : Type 0 where

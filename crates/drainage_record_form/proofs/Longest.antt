@@ -136,7 +136,8 @@ times-short body w n one =
 -- at most so many
 times-most : (body : ℕ → Plan → Plan) (w n most : ℕ) → n ≤ most → ((i : ℕ) → Part (body i) (Short w)) → Part (times n body) (Short (most * w))
 times-most body w n most h one =
-    part-map (times n body) (Short (n * w)) (Short (most * w)) (λ xs s. record { short = le-trans (s .short) (mul-le-mul-right w h) }) (times-short body w n one)
+    part-map (times n body) (Short (n * w)) (Short (most * w)) (λ xs s. record { short = le-trans (s .short) (mul-le-mul-right w h) })
+    (times-short body w n one)
 
 nothing : Part (λ rest. rest) (Short 0)
 nothing = part-none (Short 0) (short-none 0)
@@ -239,7 +240,8 @@ begun-short t room ls fine b h =
     let all : Record (front ++ (h .rest ++ b .more)) = subst (λ (l : List Line). Record (l ++ b .more)) (h .is) (b .follows) in
     le-trans (text-grows ls (b .more))
     (subst (λ (l : List Line). length (textOf (l ++ b .more)) ≤ 61 * room + 35972) (sym (h .is))
-    (record-longest (h .n) (h .d) room (h .rest ++ b .more) all (fine .limits (h .n) (h .d) (begins-headed t (h .n) (h .d) (h .rest) (subst (Begins t) (h .is) b)))))
+    (record-longest (h .n) (h .d) room (h .rest ++ b .more) all
+    (fine .limits (h .n) (h .d) (begins-headed t (h .n) (h .d) (h .rest) (subst (Begins t) (h .is) b)))))
 
 -- What a text with right N and D begins with is no longer than this.
 pub begins-longest : (t : List ℕ) (room : ℕ) (ls : List Line) → Fine t room → Begins t ls → length (textOf ls) ≤ 61 * room + 35972

@@ -32,7 +32,8 @@ worked =
     ∷ lineIs (Field.status 0) (pos 1)
     ∷ []
 
-pub worked-text : textOf worked ≡ bytes "intervals=1\ndevices=1\nmine=0\nfuels=1\nquantity=1000\nfactor=700000\nkind=2\nflow_checks=0\nch4_checks=0\nflow=30000\nch4=10000\ntemp=2000\npress=101325\nstatus=1\n"
+pub worked-text : textOf worked ≡ bytes
+    "intervals=1\ndevices=1\nmine=0\nfuels=1\nquantity=1000\nfactor=700000\nkind=2\nflow_checks=0\nch4_checks=0\nflow=30000\nch4=10000\ntemp=2000\npress=101325\nstatus=1\n"
 unfolding lineText dec
 worked-text = refl
 

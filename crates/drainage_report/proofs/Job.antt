@@ -106,7 +106,8 @@ module _ (t : List ℕ) (l : Lent) (after : Rows) (h : Header) (x : RecordRead t
         series = subst (Room (after .series)) (sym m) (each-as-long (λ e. h .intervals * h .devices ≤ e) (k .series) room-of);
       }
 
-pub ready-for : (t : List ℕ) (l : Lent) (after : Rows) (h : Header) (a : ReadAnswer) → a ≡ ReadAnswer.Record h → ReadRight t (readerRows l) after a → Roomy h after
+pub ready-for : (t : List ℕ) (l : Lent) (after : Rows) (h : Header) (a : ReadAnswer) → a ≡ ReadAnswer.Record h → ReadRight t (readerRows l) after a → Roomy h
+    after
 ready-for t l after h a e r = ready t l after h (subst (ReadRight t (readerRows l) after) e r)
 
 -- Reading leaves each row as long as it was.
@@ -189,18 +190,22 @@ module _ (t : List ℕ) (k l : Lent) (e : AsLong k l) where
 
   -- The record covers each entry that quantification is lent.
   module _ (after : Rows) (h : Header) (x : RecordRead t (readerRows l) after h) where
-    alike : seriesTake (h .devices * h .intervals) (stored (x .lines) (readerRows k) .series) ≡ seriesTake (h .devices * h .intervals) (stored (x .lines) (readerRows l) .series)
+    alike : seriesTake (h .devices * h .intervals) (stored (x .lines) (readerRows k) .series) ≡ seriesTake (h .devices * h .intervals)
+        (stored (x .lines) (readerRows l) .series)
     alike =
         subst (λ (m : ℕ). seriesTake m (stored (x .lines) (readerRows k) .series) ≡ seriesTake m (stored (x .lines) (readerRows l) .series))
         (sym (turned (h .intervals) (h .devices)))
-        (subst (λ (ls : List Line). seriesTake (h .intervals * h .devices) (stored ls (readerRows k) .series) ≡ seriesTake (h .intervals * h .devices) (stored ls (readerRows l) .series)) (sym (x .head))
-        (covered (h .intervals) (h .devices) (lineIs Field.mine (pos (h .mine)) ∷ lineIs Field.fuels (pos (h .fuels)) ∷ x .rest) (subst Record (x .head) (x .follows)) (readerRows k) (readerRows l)
+        (subst (λ (ls : List Line). seriesTake (h .intervals * h .devices) (stored ls (readerRows k) .series) ≡ seriesTake (h .intervals * h .devices)
+        (stored ls (readerRows l) .series)) (sym (x .head))
+        (covered (h .intervals) (h .devices) (lineIs Field.mine (pos (h .mine)) ∷ lineIs Field.fuels (pos (h .fuels)) ∷ x .rest)
+        (subst Record (x .head) (x .follows)) (readerRows k) (readerRows l)
         (room-of t k (stored (x .lines) (readerRows k)) h (record-other x)) (room-of t l after h x)))
 
     call-both : callOf h (stored (x .lines) (readerRows k)) (k .results) ≡ callOf h (stored (x .lines) (readerRows l)) (l .results)
     unfolding callOf readerRows
     call-both =
-        let others : rest (stored (x .lines) (readerRows k)) ≡ rest (stored (x .lines) (readerRows l)) = rest-stored (x .lines) (readerRows k) (readerRows l) refl in
+        let others : rest (stored (x .lines) (readerRows k)) ≡ rest (stored (x .lines) (readerRows l)) = rest-stored (x .lines) (readerRows k) (readerRows l)
+        refl in
         λ i. record {
           intervals = h .intervals;
           devices = h .devices;

@@ -63,7 +63,8 @@ module _ (number device place : ℕ) (old one two new : List ℕ) (p q n : ℕ)
     where
       joined : Put old 0 (lineOf (bytes "refusal=") (pos number) ++ (lineOf (bytes "device=") (pos device) ++ lineOf (bytes "place=") (pos place))) new n
       joined =
-          subst (λ (w : List ℕ). Put old 0 w new n) (append-assoc (lineOf (bytes "refusal=") (pos number)) (lineOf (bytes "device=") (pos device)) (lineOf (bytes "place=") (pos place)))
+          subst (λ (w : List ℕ). Put old 0 w new n) (append-assoc (lineOf (bytes "refusal=") (pos number)) (lineOf (bytes "device=") (pos device))
+          (lineOf (bytes "place=") (pos place)))
           (put-join old two new (lineOf (bytes "refusal=") (pos number) ++ lineOf (bytes "device=") (pos device)) (lineOf (bytes "place=") (pos place)) 0 q n
           (put-join old one two (lineOf (bytes "refusal=") (pos number)) (lineOf (bytes "device=") (pos device)) 0 p q a b) c)
 

@@ -22,7 +22,8 @@ leads-once w old new₁ new₂ n₁ n₂ x y =
 pub report-once : (t : List ℕ) (before after₁ after₂ : Lent) (old new₁ new₂ : List ℕ) (n₁ n₂ : ℕ) → Reported t before after₁ old new₁ n₁
     → Reported t before after₂ old new₂ n₂ → (new₁ ≡ new₂) × (n₁ ≡ n₂) × (after₁ ≡ after₂)
 report-once t before after₁ after₂ old new₁ new₂ n₁ n₂ x y =
-    let same : (x .answer ≡ y .answer) × (x .rows ≡ y .rows) = read-once t (readerRows before) (x .rows) (y .rows) (x .answer) (y .answer) (x .read) (y .read) in
+    let same : (x .answer ≡ y .answer) × (x .rows ≡ y .rows) = read-once t (readerRows before) (x .rows) (y .rows) (x .answer) (y .answer) (x .read)
+    (y .read) in
     let text : outputOf (y .answer) (y .rows) before ≡ outputOf (x .answer) (x .rows) before = λ i. outputOf (sym (same .0) i) (sym (same .1) i) before in
     let wrote : (new₁ ≡ new₂) × (n₁ ≡ n₂) =
     leads-once (outputOf (x .answer) (x .rows) before) old new₁ new₂ n₁ n₂ (x .written) (subst (λ (w : List ℕ). Leads w old new₂ n₂) text (y .written)) in
@@ -43,7 +44,8 @@ report-cut t m before after old new n long x =
       whatever = λ k e. cut-other k e (x .whatever k e);
     }
   where
-    cut-other : (k : Lent) → AsLong k before → Whatever (take m t) k (outputOf (x .answer) (x .rows) before) → Whatever t k (outputOf (x .answer) (x .rows) before)
+    cut-other : (k : Lent) → AsLong k before → Whatever (take m t) k (outputOf (x .answer) (x .rows) before) → Whatever t k
+        (outputOf (x .answer) (x .rows) before)
     cut-other k e w =
         record {
           answer = w .answer;

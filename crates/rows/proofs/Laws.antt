@@ -5,7 +5,8 @@ use mathlib.Core.Path.{_≡_, refl, sym, ap, ap₂, _∙_, subst}
 use mathlib.Core.Bool.{Bool, true, false}
 use mathlib.Core.Logic.{_⊎_, ⊎-elim}
 use mathlib.Core.List.{List, [], _∷_, _++_, append-assoc, append-nil}
-use native.Mathlib.Nat.{le-refl, le-step, lt-suc-self, suc-mul, zero-mul, not-suc-le-zero, le-of-suc-le-suc, eq-or-lt-of-le, mul-le-mul-right, le-antisymm, lt-irrefl, add-sub-cancel-left, lt-of-not-le}
+use native.Mathlib.Nat.{le-refl, le-step, lt-suc-self, suc-mul, zero-mul, not-suc-le-zero, le-of-suc-le-suc, eq-or-lt-of-le, mul-le-mul-right, le-antisymm}
+use native.Mathlib.Nat.{lt-irrefl, add-sub-cancel-left, lt-of-not-le}
 use native.Mathlib.Numerals.{add-one}
 use native.Mathlib.Decide.{decLe}
 use native.Mathlib.Omega.{arith}

@@ -187,7 +187,12 @@ back-values zs h =
 
 there : (p : List ℕ) → Of (lines schema) p → IsSheet p
 unfolding textOf InRange
-there p o = record { value = figuresOf (o .value); taken = subst (AllFit schema) (sym (back-values (o .value) (o .taken))) (o .taken); is = o .is ∙ ap (linesOf schema) (sym (back-values (o .value) (o .taken))) }
+there p o =
+    record {
+      value = figuresOf (o .value);
+      taken = subst (AllFit schema) (sym (back-values (o .value) (o .taken))) (o .taken);
+      is = o .is ∙ ap (linesOf schema) (sym (back-values (o .value) (o .taken)));
+    }
 
 back : (p : List ℕ) → IsSheet p → Of (lines schema) p
 unfolding textOf InRange
@@ -215,19 +220,23 @@ module _ (t : List ℕ) (i : ℕ) (h : i < 15) (zs : List ℤ) (p : ℕ) (a : Re
 
 -- The same with what the reader of a line answered and promises.
 module _ {t : List ℕ} {zs : List ℤ} {p : ℕ} (i : ℕ) (h : i < 15) (a : ReadAs (lines (take i schema)) t 0 p zs) where
-  pub natural-step : {r : Natural} {v q : ℕ} → r ≡ Natural.Value v q → NaturalIn (line (entryAt i .key) (entryAt i .range)) t p r → ReadAs (lines (take (suc i) schema)) t 0 q (zs ++ (pos v ∷ []))
+  pub natural-step : {r : Natural} {v q : ℕ} → r ≡ Natural.Value v q → NaturalIn (line (entryAt i .key) (entryAt i .range)) t p r → ReadAs
+      (lines (take (suc i) schema)) t 0 q (zs ++ (pos v ∷ []))
   natural-step {r} {v} {q} e b = read-step t i h zs p a (pos v) q (natural-read (line (entryAt i .key) (entryAt i .range)) t p r v q e b)
 
-  pub signed-step : {r : Signed} {z : ℤ} {q : ℕ} → r ≡ Signed.Value z q → SignedIn (line (entryAt i .key) (entryAt i .range)) t p r → ReadAs (lines (take (suc i) schema)) t 0 q (zs ++ (z ∷ []))
+  pub signed-step : {r : Signed} {z : ℤ} {q : ℕ} → r ≡ Signed.Value z q → SignedIn (line (entryAt i .key) (entryAt i .range)) t p r → ReadAs
+      (lines (take (suc i) schema)) t 0 q (zs ++ (z ∷ []))
   signed-step {r} {z} {q} e b = read-step t i h zs p a z q (signed-read (line (entryAt i .key) (entryAt i .range)) t p r z q e b)
 
   pub read-fit : {r : Signed} {z : ℤ} {q : ℕ} → r ≡ Signed.Value z q → SignedIn (line (entryAt i .key) (entryAt i .range)) t p r → Fit (entryAt i .range) z
   read-fit {r} {z} {q} e b = signed-read (line (entryAt i .key) (entryAt i .range)) t p r z q e b .taken
 
-  pub natural-refused : (r : Natural) {k : ℕ} → tagOf NaturalType.the-type r ≡ 1 → k ≡ wrongAt r → NaturalIn (line (entryAt i .key) (entryAt i .range)) t p r → RefusedAt IsSheet t k
+  pub natural-refused : (r : Natural) {k : ℕ} → tagOf NaturalType.the-type r ≡ 1 → k ≡ wrongAt r → NaturalIn (line (entryAt i .key) (entryAt i .range)) t p r →
+      RefusedAt IsSheet t k
   natural-refused r {k} tag e b = read-refused t i h zs p a k (natural-wrong (line (entryAt i .key) (entryAt i .range)) t p k r tag e b)
 
-  pub signed-refused : (r : Signed) {k : ℕ} → tagOf SignedType.the-type r ≡ 1 → k ≡ signedWrongAt r → SignedIn (line (entryAt i .key) (entryAt i .range)) t p r → RefusedAt IsSheet t k
+  pub signed-refused : (r : Signed) {k : ℕ} → tagOf SignedType.the-type r ≡ 1 → k ≡ signedWrongAt r → SignedIn (line (entryAt i .key) (entryAt i .range)) t p
+      r → RefusedAt IsSheet t k
   signed-refused r {k} tag e b = read-refused t i h zs p a k (signed-wrong (line (entryAt i .key) (entryAt i .range)) t p k r tag e b)
 
 pub head-read : {t : List ℕ} {r : Head} {v : Volumes} {q : ℕ} → r ≡ Head.Read v q → HeadIn t r → ReadAs (lines (take 8 schema)) t 0 q (volumesOf v)
@@ -267,7 +276,8 @@ module _ (f : Figures) (fit : InRange f) (i : ℕ) (h : i < 15) {old mid : List 
   zs-is : take (suc i) (valuesOf f) ≡ take i (valuesOf f) ++ (valueAt f i ∷ [])
   zs-is = take-suc (valuesOf f) i (pos 0) (omega (arith, values-length f))
 
-  pub put-step : {new : List ℕ} {q : ℕ} → Put mid p (lineOf (entryAt i .key) (valueAt f i)) new q → Put old 0 (linesOf (take (suc i) schema) (take (suc i) (valuesOf f))) new q
+  pub put-step : {new : List ℕ} {q : ℕ} → Put mid p (lineOf (entryAt i .key) (valueAt f i)) new q → Put old 0
+      (linesOf (take (suc i) schema) (take (suc i) (valuesOf f))) new q
   unfolding InRange
   put-step {new} {q} b =
       rw (es-is, zs-is) (lines-put (take i schema) (entryAt i) (take i (valuesOf f)) (valueAt f i) old mid new p q (fit-take i schema (valuesOf f) fit) a b)
@@ -275,7 +285,8 @@ module _ (f : Figures) (fit : InRange f) (i : ℕ) (h : i < 15) {old mid : List 
   pub put-room : p + length (lineOf (entryAt i .key) (valueAt f i)) < 2 ^ 64
   unfolding InRange
   put-room =
-      let text : linesOf (take (suc i) schema) (take (suc i) (valuesOf f)) ≡ linesOf (take i schema) (take i (valuesOf f)) ++ lineOf (entryAt i .key) (valueAt f i) =
+      let text : linesOf (take (suc i) schema) (take (suc i) (valuesOf f)) ≡ linesOf (take i schema) (take i (valuesOf f)) ++ lineOf (entryAt i .key)
+      (valueAt f i) =
       rw (es-is, zs-is) (lines-snoc (take i schema) (entryAt i) (take i (valuesOf f)) (valueAt f i) (fit-take i schema (valuesOf f) fit))
       in
       omega (
@@ -294,7 +305,8 @@ module _ (f : Figures) (fit : InRange f) (i : ℕ) (h : i < 15) {old mid : List 
     unfolding InRange
     same = signed-back (valueAt f i) (subst (λ (x : Range). Fit x (valueAt f i)) r (fit-at schema (valuesOf f) i fit (omega (arith, schema-length))))
 
-    pub put-signed-step : {new : List ℕ} {q : ℕ} → Put mid p (lineOf (entryAt i .key) (toZ w64 (ofZ w64 (valueAt f i)))) new q → Put old 0 (linesOf (take (suc i) schema) (take (suc i) (valuesOf f))) new q
+    pub put-signed-step : {new : List ℕ} {q : ℕ} → Put mid p (lineOf (entryAt i .key) (toZ w64 (ofZ w64 (valueAt f i)))) new q → Put old 0
+        (linesOf (take (suc i) schema) (take (suc i) (valuesOf f))) new q
     put-signed-step {new} {q} b = put-step (subst (λ (z : ℤ). Put mid p (lineOf (entryAt i .key) z) new q) same b)
 
     pub put-signed-room : p + length (lineOf (entryAt i .key) (toZ w64 (ofZ w64 (valueAt f i)))) < 2 ^ 64
@@ -322,11 +334,13 @@ nothing x w e = none x (ap length e ∙ length-sets [] 0 w)
     none [] h = refl
     none (c ∷ y) h = absurd (omega arith)
 
-pub put-done : (f : Figures) (old mid new : List ℕ) (n m : ℕ) → mid ≡ old → n ≡ 0 + length (textOf f) → n ≤ length mid → Put mid 0 (textOf f) new m → Done f old new m
+pub put-done : (f : Figures) (old mid new : List ℕ) (n m : ℕ) → mid ≡ old → n ≡ 0 + length (textOf f) → n ≤ length mid → Put mid 0 (textOf f) new m → Done f old
+    new m
 put-done f old mid new n m same size room a =
     put-leads (textOf f) old new m (subst (λ (l : List ℕ). Put l 0 (textOf f) new m) same a) (omega (arith, size, ap length same))
 
-pub put-short : (f : Figures) (old mid : List ℕ) (n : ℕ) → mid ≡ old → n ≡ 0 + length (textOf f) → length mid < n → length (textOf f) ≤ sheetMost → Short f old mid n
+pub put-short : (f : Figures) (old mid : List ℕ) (n : ℕ) → mid ≡ old → n ≡ 0 + length (textOf f) → length mid < n → length (textOf f) ≤ sheetMost → Short f old
+    mid n
 put-short f old mid n same size short most = record {
   needed = omega (arith, size);
   short = omega (arith, ap length same);

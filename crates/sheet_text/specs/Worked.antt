@@ -25,6 +25,7 @@ worked = record {
   «credits» = 35;
 }
 
-worked-is : textOf worked ≡ bytes "intervals=1\ndevices=1\ncounted=1\nreplaced=0\nexcluded=0\nmethane_l=3000000\ndestroyed_l=2985000\nuncombusted_l=15000\nbaseline_mg=42021000000\nco2_mg=5475236250\nuncombusted_mg=210105000\nfuel_mg=700000000\nreduction_mg=35635658750\ntonnes=35\ncredits=35\n"
+worked-is : textOf worked ≡ bytes
+    "intervals=1\ndevices=1\ncounted=1\nreplaced=0\nexcluded=0\nmethane_l=3000000\ndestroyed_l=2985000\nuncombusted_l=15000\nbaseline_mg=42021000000\nco2_mg=5475236250\nuncombusted_mg=210105000\nfuel_mg=700000000\nreduction_mg=35635658750\ntonnes=35\ncredits=35\n"
 unfolding textOf schema valuesOf dec
 worked-is = refl

@@ -23,7 +23,8 @@ lowest a r x s ha hx e = omega arith
 four : (a b c d w x y z : ℕ) → a < 256 → b < 256 → c < 256 → w < 256 → x < 256 → y < 256
     → a + 256 * b + 65536 * c + 16777216 * d ≡ w + 256 * x + 65536 * y + 16777216 * z → (a ≡ w) × (b ≡ x) × (c ≡ y) × (d ≡ z)
 four a b c d w x y z ha hb hc hw hx hy e =
-    let p : (a ≡ w) × (b + 256 * (c + 256 * d) ≡ x + 256 * (y + 256 * z)) = lowest a (b + 256 * (c + 256 * d)) w (x + 256 * (y + 256 * z)) ha hw (omega arith) in
+    let p : (a ≡ w) × (b + 256 * (c + 256 * d) ≡ x + 256 * (y + 256 * z)) = lowest a (b + 256 * (c + 256 * d)) w (x + 256 * (y + 256 * z)) ha hw
+    (omega arith) in
     let q : (b ≡ x) × (c + 256 * d ≡ y + 256 * z) = lowest b (c + 256 * d) x (y + 256 * z) hb hx (p .1) in
     let r : (c ≡ y) × (d ≡ z) = lowest c d y z hc hy (q .1) in
     (p .0, q .0, r .0, r .1)

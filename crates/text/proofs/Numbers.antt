@@ -145,7 +145,8 @@ tells m n false below above = sym (le-ltb m n (above refl))
 
 -- ---- signed numbers
 
-pub plus-read : (t : List ℕ) (i stop below most e v : ℕ) → ReadAs (number (plain 0 most) e) t i stop (pos v) → ReadAs (number (signed below most) e) t i stop (pos v)
+pub plus-read : (t : List ℕ) (i stop below most e v : ℕ) → ReadAs (number (plain 0 most) e) t i stop (pos v) → ReadAs (number (signed below most) e) t i stop
+    (pos v)
 plus-read t i stop below most e v r = record { taken = r .taken; stands = r .stands }
 
 plus-of : (below most e : ℕ) (p : List ℕ) → Of (number (plain 0 most) e) p → Of (number (signed below most) e) p
@@ -171,7 +172,8 @@ plus-broken t i k below most e other h b = record {
         by (pos w) hz q = ends inside (record { rest = x .rest; belongs = record { value = pos w; taken = hz; is = q } })
         by (negsuc n) hz q = minus p s st q
           where
-            minus : (p : List ℕ) → Stands t i k p → Started (Of (number (plain 0 most) e)) p → (p ++ (getD t k 0 ∷ [])) ++ x .rest ≡ 45 ∷ (dec (suc n) ++ (e ∷ [])) → ⊥
+            minus : (p : List ℕ) → Stands t i k p → Started (Of (number (plain 0 most) e)) p → (p ++ (getD t k 0 ∷ [])) ++ x .rest ≡ 45 ∷
+                (dec (suc n) ++ (e ∷ [])) → ⊥
             minus [] s st q =
                 let place : k ≡ i = at s in
                 other (omega arith) (ap (λ (j : ℕ). getD t j 0) (sym place) ∙ ap (λ (l : List ℕ). getD l 0 0) q)
@@ -290,7 +292,9 @@ module _ (t : List ℕ) (i n : ℕ) (key : List ℕ) (r : Range) (m : Matched t 
           belongs = record {
             value = z;
             taken = hz;
-            is = sym (append-assoc (take n key) (getD key n 0 ∷ drop (suc n) key) (decimal z ++ (10 ∷ []))) ∙ ap (λ (l : List ℕ). l ++ (decimal z ++ (10 ∷ []))) (sym key-is);
+            is =
+                sym (append-assoc (take n key) (getD key n 0 ∷ drop (suc n) key) (decimal z ++ (10 ∷ []))) ∙ ap (λ (l : List ℕ). l ++ (decimal z ++ (10 ∷ [])))
+                (sym key-is);
           };
         };
         ends = λ inside x.

@@ -78,7 +78,8 @@ room-minus at r z e h =
 pub room-fits : (r : ℕ) (z : ℤ) → z ≡ negsuc r → SFits w64 z → Fits w64 (r + 1)
 room-fits r z e h = record { fits = omega (arith, subst (SFits w64) e h .sfits) }
 
-pub put-minus : (old mid new : List ℕ) (i q r : ℕ) (z : ℤ) → z ≡ negsuc r → mid ≡ set old i 45 → Put mid (i + 1) (dec (r + 1)) new q → Put old i (decimal z) new q
+pub put-minus : (old mid new : List ℕ) (i q r : ℕ) (z : ℤ) → z ≡ negsuc r → mid ≡ set old i 45 → Put mid (i + 1) (dec (r + 1)) new q → Put old i (decimal z) new
+    q
 put-minus old mid new i q r z e m p =
     subst (λ (w : List ℕ). Put old i w new q) (ap (λ (n : ℕ). 45 ∷ dec n) (add-one r) ∙ ap decimal (sym e))
     (put-join old mid new (45 ∷ []) (dec (r + 1)) i (i + 1) q (put-one old mid i 45 m) p)

@@ -62,7 +62,8 @@ fit-split (e ∷ a) b (z ∷ zs) h =
     (z ∷ s .0, s .1, ap (λ (l : List ℤ). z ∷ l) (s .2), (h .0, s .3), s .4)
 
 -- One line more, as a text.
-pub lines-snoc : (es : List Entry) (e : Entry) (zs : List ℤ) (z : ℤ) → AllFit es zs → linesOf (es ++ (e ∷ [])) (zs ++ (z ∷ [])) ≡ linesOf es zs ++ lineOf (e .key) z
+pub lines-snoc : (es : List Entry) (e : Entry) (zs : List ℤ) (z : ℤ) → AllFit es zs → linesOf (es ++ (e ∷ [])) (zs ++ (z ∷ [])) ≡ linesOf es zs ++ lineOf
+    (e .key) z
 lines-snoc es e zs z h = lines-append es (e ∷ []) zs (z ∷ []) h ∙ ap (λ (l : List ℕ). linesOf es zs ++ l) (append-nil (lineOf (e .key) z))
 
 -- ---- writing line by line
@@ -77,7 +78,8 @@ lines-put es e zs z old mid new p q h a b =
 pub lines-none : (t : List ℕ) (i : ℕ) → i ≤ length t → ReadAs (lines []) t i i []
 lines-none t i h = record { taken = tt; stands = stands-none t i h }
 
-pub lines-read : (es : List Entry) (e : Entry) (zs : List ℤ) (z : ℤ) (t : List ℕ) (i p q : ℕ) → ReadAs (lines es) t i p zs → ReadAs (line (e .key) (e .range)) t p q z
+pub lines-read : (es : List Entry) (e : Entry) (zs : List ℤ) (z : ℤ) (t : List ℕ) (i p q : ℕ) → ReadAs (lines es) t i p zs → ReadAs (line (e .key) (e .range)) t
+    p q z
     → ReadAs (lines (es ++ (e ∷ []))) t i q (zs ++ (z ∷ []))
 lines-read es e zs z t i p q a b = record {
   taken = fit-append es (e ∷ []) zs (z ∷ []) (a .taken) (b .taken, tt);
@@ -125,14 +127,16 @@ module _ (es : List Entry) (t : List ℕ) (p : ℕ) (zs : List ℤ) (a : ReadAs 
         o .is ∙ ap (linesOf (es ++ (e ∷ rest))) (s .2) ∙ lines-append es (e ∷ rest) (s .0) (s .1) (s .3)
         in
         let same : zs ≡ s .0 = lines-apart es zs (s .0) w (linesOf (e ∷ rest) (s .1)) (a .taken) (s .3) is in
-        first (s .1) (s .4) (cancel (linesOf es zs) w (linesOf (e ∷ rest) (s .1)) (is ∙ ap (λ (l : List ℤ). linesOf es l ++ linesOf (e ∷ rest) (s .1)) (sym same)))
+        first (s .1) (s .4) (cancel (linesOf es zs) w (linesOf (e ∷ rest) (s .1))
+        (is ∙ ap (λ (l : List ℤ). linesOf es l ++ linesOf (e ∷ rest) (s .1)) (sym same)))
       where
         first : (ys : List ℤ) → AllFit (e ∷ rest) ys → w ≡ linesOf (e ∷ rest) ys → (y : ℤ) × (m : List ℕ) × Fit (e .range) y × (w ≡ lineOf (e .key) y ++ m)
         first [] h q = absurd h
         first (y ∷ ys) h q = (y, linesOf rest ys, h .0, q)
 
     -- No text of the table goes on with the bytes that were read and the byte at k; nor is it over there.
-    never : (w : List ℕ) (m : List ℕ) (y : ℤ) → Fit (e .range) y → w ≡ lineOf (e .key) y ++ m → length (lineOf (e .key) y) ≤ length (b .read) → (x : List ℕ) → w ≡ b .read ++ x → ⊥
+    never : (w : List ℕ) (m : List ℕ) (y : ℤ) → Fit (e .range) y → w ≡ lineOf (e .key) y ++ m → length (lineOf (e .key) y) ≤ length (b .read) → (x : List ℕ) →
+        w ≡ b .read ++ x → ⊥
     never w m y fit q short x r =
         let s : (n : List ℕ) × (b .read ≡ lineOf (e .key) y ++ n) × (n ++ x ≡ m) = splits (b .read) x (lineOf (e .key) y) m (sym r ∙ q) short in
         started-past (line (e .key) (e .range)) (line-free (e .key) (e .range)) (b .read) (lineOf (e .key) y) (s .0) (b .begins)
@@ -167,9 +171,16 @@ module _ (es : List Entry) (t : List ℕ) (p : ℕ) (zs : List ℤ) (a : ReadAs 
     pub lines-broken : (ws : List ℤ) → AllFit rest ws → RefusedAt (Of (lines (es ++ (e ∷ rest)))) t k
     lines-broken ws fit = record {
       within = b .stands .within;
-      begins = record { rest = (b .begins .next ∷ b .begins .rest) ++ linesOf rest ws; belongs = record { value = zs ++ (o .value ∷ ws); taken = fit-append es (e ∷ rest) zs (o .value ∷ ws) (a .taken) (o .taken, fit); is = text-is-all } };
+      begins =
+          record {
+            rest = (b .begins .next ∷ b .begins .rest) ++ linesOf rest ws;
+            belongs =
+                record { value = zs ++ (o .value ∷ ws); taken = fit-append es (e ∷ rest) zs (o .value ∷ ws) (a .taken) (o .taken, fit); is = text-is-all };
+          };
       ends = longer;
-      none = λ x. ⊎-elim (λ h. longer h (record { rest = drop (suc k) t; belongs = subst (Of (lines (es ++ (e ∷ rest)))) (sym (take-append-drop (suc k) t)) x })) (λ h. at-end h x) (below-or k (length t));
+      none =
+          λ x. ⊎-elim (λ h. longer h (record { rest = drop (suc k) t; belongs = subst (Of (lines (es ++ (e ∷ rest)))) (sym (take-append-drop (suc k) t)) x }))
+          (λ h. at-end h x) (below-or k (length t));
     }
       where
         o : Of (line (e .key) (e .range)) (b .read ++ (b .begins .next ∷ b .begins .rest))
@@ -182,14 +193,17 @@ module _ (es : List Entry) (t : List ℕ) (p : ℕ) (zs : List ℤ) (a : ReadAs 
         text-is-all =
             ap (λ (l : List ℕ). l ++ ((b .begins .next ∷ b .begins .rest) ++ linesOf rest ws)) upto
             ∙ append-assoc (linesOf es zs) (b .read) ((b .begins .next ∷ b .begins .rest) ++ linesOf rest ws)
-            ∙ ap (λ (l : List ℕ). linesOf es zs ++ l) (sym (append-assoc (b .read) (b .begins .next ∷ b .begins .rest) (linesOf rest ws)) ∙ ap (λ (l : List ℕ). l ++ linesOf rest ws) (o .is))
+            ∙ ap (λ (l : List ℕ). linesOf es zs ++ l) (sym (append-assoc (b .read) (b .begins .next ∷ b .begins .rest) (linesOf rest ws)) ∙ ap
+            (λ (l : List ℕ). l ++ linesOf rest ws) (o .is))
             ∙ sym (lines-append es (e ∷ rest) zs (o .value ∷ ws) (a .taken))
 
         at-end : length t ≤ k → Of (lines (es ++ (e ∷ rest))) t → ⊥
         at-end h x =
             let text : t ≡ linesOf es zs ++ b .read = sym (take-all k t h) ∙ upto in
-            let v : (y : ℤ) × (m : List ℕ) × Fit (e .range) y × (b .read ≡ lineOf (e .key) y ++ m) = behind (b .read) (subst (Of (lines (es ++ (e ∷ rest)))) text x) in
-            never (b .read) (v .1) (v .0) (v .2) (v .3) (omega (arith, ap length (v .3), length-append (lineOf (e .key) (v .0)) (v .1))) [] (sym (append-nil (b .read)))
+            let v : (y : ℤ) × (m : List ℕ) × Fit (e .range) y × (b .read ≡ lineOf (e .key) y ++ m) = behind (b .read)
+            (subst (Of (lines (es ++ (e ∷ rest)))) text x) in
+            never (b .read) (v .1) (v .0) (v .2) (v .3) (omega (arith, ap length (v .3), length-append (lineOf (e .key) (v .0)) (v .1))) []
+            (sym (append-nil (b .read)))
 
 -- ---- how long a text can get
 

@@ -43,7 +43,8 @@ no-flow content temp press =
     ∙ ap (λ (n : ℕ). n / 10000) (zero-mul content)
 
 -- what any interval inside the ranges has
-pub methane-litres-most : (flow content : ℕ) (temp : ℤ) (press : ℕ) → Inside flow temp press → content ≤ contentMost → methaneLitres flow content temp press ≤ litresMost
+pub methane-litres-most : (flow content : ℕ) (temp : ℤ) (press : ℕ) → Inside flow temp press → content ≤ contentMost → methaneLitres flow content temp press ≤
+    litresMost
 unfolding methaneLitres methaneOf litresOf
 methane-litres-most flow content temp press i h =
     le-trans

@@ -42,7 +42,8 @@ enum-known-verdict c = search needs
 returns : tie.Need-returns
 unfolding call results
 returns c =
-    settled-refused (call (start·returns c)) (results (start·returns c)) _ (sym (judge·returns c .judge .ensures .verdict) ∙ verdict·returns c .verdict .given .1)
+    settled-refused (call (start·returns c)) (results (start·returns c)) _
+    (sym (judge·returns c .judge .ensures .verdict) ∙ verdict·returns c .verdict .given .1)
 
 enum-told : tie.Need-enum-told
 enum-told c = search needs

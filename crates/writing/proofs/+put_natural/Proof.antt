@@ -97,7 +97,12 @@ put-natural-add-result-2 : (t : ℕ) → put-natural-lts.Need-add-result-2 (
   put-natural-below t,
   put-natural.Post,
 ) (put-natural-at t) put-natural.Post
-put-natural-add-result-2 t c = omega (arith, digits-room (c .before .before .before .before .before .before .before .before .before .before .args .v) (omega arith), c .before .before .before .before .before .before .put-natural .ensures .stops)
+put-natural-add-result-2 t c =
+    omega (
+      arith,
+      digits-room (c .before .before .before .before .before .before .before .before .before .before .args .v) (omega arith),
+      c .before .before .before .before .before .before .put-natural .ensures .stops,
+    )
 
 put-natural-same-length : (t : ℕ) → put-natural-lts.Need-same-length (
   put-reads.Asked,
