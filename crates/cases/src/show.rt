@@ -141,7 +141,7 @@ fn near_to(exact: u64, reported: u64, below: u64) -> Nearness {
 
 // The sheet, and how near its tonnes are to the exact reduction in the text at `at`.
 pub fn sheet(f: Figures, t: &[u8], at: usize) -> Nearness {
-    let mut buf = [0u8; 465];
+    let mut buf = [0u8; sheet_text::SHEET_MOST];
     let a = sheet_text::write(f, &mut buf);
     let WriteAnswer::Written(n) = a else {
         return near_to(0, 1, 0);
