@@ -23,7 +23,7 @@ fn run(text: &mut [u8; TEXT]) {
     let mut outcome = [0u8; ENTRIES];
     let mut flow_used = [0u16; ENTRIES];
     let mut content_used = [0u16; ENTRIES];
-    let mut out = [0u8; 465];
+    let mut out = [0u8; sheet_text::SHEET_MOST];
     let k = drainage_report::report(
         first(text, n),
         &mut flow,
