@@ -1,3 +1,4 @@
+-- The product fits 64 bits, and its quarter is rounded up.
 use Rattle.balance.specs.Balance.{carbonDioxideMg}
 use native.Mathlib.Omega.{arith}
 use Rattle.balance.proofs.carbon_dioxide_mg.Statement.{statement}

@@ -1,3 +1,4 @@
+-- Tonnes, or none below zero.
 use mathlib.Core.Path.{_≡_, sym, ap, _∙_, subst}
 use mathlib.Core.Bool.{true, false}
 use lib.IntN.{ℤ, pos, natAbs}

@@ -1,3 +1,4 @@
+-- The share that is burnt, rounded down.
 use Prim.Native.Nat.{_≤_}
 use native.Mathlib.Omega.{arith}
 use Rattle.protocol.specs.Kinds.{thousandthsOf}

@@ -1,3 +1,4 @@
+-- A difference of two naturals, with its sign.
 use Prim.Native.Nat.{_-_}
 use native.Mathlib.Omega.{arith}
 use mathlib.Core.Path.{_∙_}

@@ -1,3 +1,4 @@
+-- The product and the sum fit 64 bits.
 use Prim.Native.Nat.{_*_, _≤_}
 use native.Mathlib.Omega.{arith}
 use Rattle.balance.proofs.Laws.{thousand-times}

@@ -1,3 +1,4 @@
+-- Rounded towards minus infinity, on both sides of zero.
 use Prim.Native.Nat.{_-_, _/_}
 use native.Mathlib.Omega.{arith}
 use mathlib.Core.Path.{_∙_}

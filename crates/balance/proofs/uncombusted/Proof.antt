@@ -1,3 +1,4 @@
+-- The share that is not burnt, rounded up.
 use Prim.Native.Nat.{_≤_}
 use native.Mathlib.Omega.{arith}
 use Rattle.protocol.specs.Kinds.{thousandthsOf}

@@ -1,3 +1,4 @@
+-- The sum over fuel lines, within 64 bits.
 use Prim.Native.Nat.{_*_, _-_}
 use mathlib.Core.Path.{refl}
 use native.Mathlib.Omega.{arith}

@@ -1,3 +1,4 @@
+-- The sheet's figures, the two signed ones within 64 bits.
 use mir.Syntax.{w64}
 use mir.Facts.{toZ-ofZ}
 use mathlib.Core.Path.{_∙_}

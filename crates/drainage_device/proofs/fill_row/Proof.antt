@@ -1,3 +1,4 @@
+-- Both series, then the last pass: a device's rows and its account.
 use Rattle.drainage_device.proofs.Laws.{low-weaken, ready-held, sums-held, filled-held}
 use Rattle.columns.specs.Series.{seriesNow, checksNow}
 use Rattle.drainage_drift.specs.Drift.{Ordered}

@@ -1,3 +1,4 @@
+-- A series' row is corrected for drift, and then its gaps are filled.
 use mathlib.Core.Path.{sym, ap, _∙_, subst}
 use Prim.Native.Nat.{ℕ}
 use mathlib.Core.List.{List}

@@ -1,3 +1,4 @@
+-- One account more in the sums, each within 64 bits.
 use Rattle.drainage_devices.proofs.Laws.{added-is, Sums, sums-fit}
 use native.Mathlib.Omega.{arith}
 use lib.Dec.{lit<}

@@ -1,3 +1,4 @@
+-- The last pass keeps rows, counts and litres as the definitions have them.
 use Prim.Native.Nat.{_-_}
 use mathlib.Core.Path.{_≡_, refl, sym, _∙_}
 use native.Mathlib.Omega.{arith}

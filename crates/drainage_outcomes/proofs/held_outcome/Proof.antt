@@ -1,3 +1,4 @@
+-- What a held number says of a missing reading.
 use borrow.Author.Tests.{lt-ltb, le-ltb}
 use borrow.Author.Needs.{needs}
 use Rattle.drainage_outcomes.proofs.held_outcome.Statement.{statement}

@@ -1,3 +1,4 @@
+-- Temperature or pressure is missing.
 use mathlib.Core.Path.{sym, ap, _∙_}
 use mir.Facts.{toZ-ofZ}
 use Rattle.protocol.specs.Ranges.{tempMissing}

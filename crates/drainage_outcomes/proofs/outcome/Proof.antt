@@ -1,3 +1,4 @@
+-- The outcomes in their order, test by test.
 use borrow.Author.Tests.{eq-eqb, ne-eqb}
 use Rattle.drainage_outcomes.specs.Outcomes.{outcomeOf}
 use Rattle.drainage_outcomes.proofs.outcome.Statement.{statement}

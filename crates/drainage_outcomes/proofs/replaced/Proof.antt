@@ -1,3 +1,4 @@
+-- The outcome of a missing reading, test by test.
 use borrow.Author.Tests.{eq-eqb, ne-eqb}
 use Rattle.drainage_outcomes.proofs.replaced.Statement.{statement}
 use Rattle.drainage_outcomes.proofs.replaced.Tie as tie

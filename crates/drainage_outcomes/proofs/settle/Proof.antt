@@ -1,3 +1,4 @@
+-- One interval: its outcome, its values and its litres.
 use mathlib.Core.Path.{_≡_, sym, ap, _∙_, subst}
 use lib.Dec.{eqb}
 use lib.IntN.{ℤ}

@@ -1,3 +1,4 @@
+-- The scan passes over equal entries only.
 use borrow.Author.Needs.{needs}
 use Rattle.rows.proofs.Scan.{Passed, passed-none, passed-more, passed-found, passed-all}
 use borrow.Author.Tests.{eq-eqb, ne-eqb}

@@ -1,3 +1,4 @@
+-- The part that is lent on lies inside the text.
 use mathlib.Core.Path.{sym}
 use lib.Seq.{length-take-le}
 use borrow.Author.Needs.{needs}

@@ -1,3 +1,4 @@
+-- Every length that is lent fits; what is read and printed is not proved.
 use Rattle.text.proofs.Writing.{leads-long}
 use mathlib.Core.Path.{sym}
 use borrow.Author.Needs.{needs}

@@ -1,3 +1,4 @@
+-- The products fit 64 bits, and the quotient is rounded down.
 use Prim.Native.Nat.{ℕ, _*_, _/_, _<_}
 use mathlib.Core.Path.{_≡_, sym, ap, _∙_, subst}
 use lib.IntN.{ℤ}

@@ -1,3 +1,4 @@
+-- The product fits 64 bits, and its quotient is rounded down.
 use mathlib.Core.Path.{refl}
 use native.Mathlib.Omega.{arith}
 use Rattle.volume.specs.Volume.{methaneOf}

@@ -1,3 +1,4 @@
+-- Volume first, then the methane in it.
 use Prim.Native.Nat.{ℕ}
 use mathlib.Core.Path.{_≡_, ap, _∙_}
 use lib.IntN.{ℤ}
