@@ -1,5 +1,5 @@
 -- Litres that were rounded down, beside the exact ones: q whole litres of n counted intervals, each of which loses at most
--- 1 + 1/u litre. In document 01 u is 1: less than a litre of volume, then less than a litre of methane.
+-- 1 + 1/u litre. With rules 9.1 and 9.2 u is 1: less than a litre of volume, then less than a litre of methane.
 -- Assumes nothing.
 use Prim.Native.Nat.{ℕ, zero, suc, _+_, _*_, _/_, _≤_, _<_}
 use mathlib.Core.Path.{_≡_, refl, ap, _∙_}

@@ -1,4 +1,4 @@
-// Runs the sheet's text over texts on both sides of each rule and prints what document 01 asks: the sheet, or the three lines of a refusal.
+// Runs the sheet's text over texts on both sides of each rule and prints what the rules ask: the sheet, or the three lines of a refusal.
 use figures::Figures;
 use libc::STDOUT_FILENO;
 use refusals::Told;
