@@ -71,6 +71,15 @@ read-settled t (ReadAnswer.Sheet f) (ReadAnswer.Refused s) p q = absurd (never-b
 read-settled t (ReadAnswer.Refused r) (ReadAnswer.Sheet g) p q = absurd (never-both t g r q p)
 read-settled t (ReadAnswer.Refused r) (ReadAnswer.Refused s) p q = ap ReadAnswer.Refused (refused-same t r s p q)
 
+-- whatever is right is told as it must be, for nothing else is right
+pub read-answered : (t : List ℕ) (a : ReadAnswer) → ReadRight t a → Read.Answered t a
+read-answered t a x =
+    record {
+      right = x;
+      told-sheet = λ f y. ap Read.toldIn (read-settled t a (ReadAnswer.Sheet f) x y);
+      told-refused = λ r y. ap Read.toldIn (read-settled t a (ReadAnswer.Refused r) x y);
+    }
+
 written-or-short : (f : Figures) (old new other : List ℕ) (m : ℕ) (r : Refusal) → Write.Done f old new m → Write.Refused f old other r → ⊥
 written-or-short f old new other m (Refusal.ShortBuffer n) p (Write.Refused.shortBuffer q) = omega (arith, p .size, p .room, q .needed, q .short)
 
@@ -88,6 +97,14 @@ write-settled f old new other (WriteAnswer.Refused r) (WriteAnswer.Written n) p 
 write-settled f old new other (WriteAnswer.Refused r) (WriteAnswer.Refused s) p q =
     let e : (r ≡ s) × (new ≡ other) = short-same f old new other r s p q in
     (ap WriteAnswer.Refused (e .0), e .1)
+
+pub write-answered : (f : Figures) (old new : List ℕ) (a : WriteAnswer) → WriteRight f old new a → Write.Answered f old new a
+write-answered f old new a x =
+    record {
+      right = x;
+      told-written = λ left n y. ap Write.toldIn (write-settled f old new left a (WriteAnswer.Written n) x y .0);
+      told-refused = λ left r y. ap Write.toldIn (write-settled f old new left a (WriteAnswer.Refused r) x y .0);
+    }
 
 -- A refusal is not told as nothing.
 refused-told : (t : List ℕ) (r : Refusal) → Read.Refused t r → toldOf r ≡ nothing → ⊥

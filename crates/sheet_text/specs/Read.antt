@@ -29,3 +29,10 @@ pub data Refused (t : List ℕ) : Refusal → Type 0 where
 abbrev pub ReadRight : List ℕ → ReadAnswer → Type 0
 ReadRight t (ReadAnswer.Sheet f) = SheetOf t f
 ReadRight t (ReadAnswer.Refused r) = Refused t r
+
+-- The answer is right, and told as it must be: three zeros if the text is a sheet (rule 5.7), else the number, the device and the place
+-- of the refusal that fits it (rule 5.4).
+pub record Answered (t : List ℕ) (a : ReadAnswer) : Type 0 where
+  pub right : ReadRight t a
+  pub told-sheet : (f : Figures) → SheetOf t f → toldIn a ≡ nothing
+  pub told-refused : (r : Refusal) → Refused t r → toldIn a ≡ toldOf r

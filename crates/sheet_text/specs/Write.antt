@@ -36,3 +36,10 @@ pub data Refused (f : Figures) (old new : List ℕ) : Refusal → Type 0 where
 abbrev pub WriteRight : Figures → List ℕ → List ℕ → WriteAnswer → Type 0
 WriteRight f old new (WriteAnswer.Written n) = Done f old new n
 WriteRight f old new (WriteAnswer.Refused r) = Refused f old new r
+
+-- Answer and buffer are right, and the answer is told as it must be: three zeros if the sheet can be written (rule 5.7), else the
+-- number, the device and the place of the refusal (rule 5.4).
+pub record Answered (f : Figures) (old new : List ℕ) (a : WriteAnswer) : Type 0 where
+  pub right : WriteRight f old new a
+  pub told-written : (left : List ℕ) (n : ℕ) → Done f old left n → toldIn a ≡ nothing
+  pub told-refused : (left : List ℕ) (r : Refusal) → Refused f old left r → toldIn a ≡ toldOf r

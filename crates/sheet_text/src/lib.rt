@@ -12,10 +12,8 @@ ghost use Rattle.text.specs.Answer.{Put};
 ghost use Rattle.text.specs.Line.{linesOf};
 ghost use Rattle.sheet_text.specs.Sheet.{textOf, schema, valuesOf, sheetMost, InRange};
 ghost use Rattle.sheet_text.specs.Read as Read;
-ghost use Rattle.sheet_text.specs.Read.{ReadRight};
 ghost use Rattle.sheet_text.specs.Head.{HeadIn, headWrong};
 ghost use Rattle.sheet_text.specs.Write as Write;
-ghost use Rattle.sheet_text.specs.Write.{WriteRight};
 
 const MOST: u64 = 18446744073709551615;
 
@@ -93,7 +91,7 @@ fn put_sheet(f: Figures, buf: &mut [u8]) -> usize
 
 // Writes the sheet. Ruled out: a byte after the sheet's end changed; a part of the sheet in a buffer that is too short.
 pub fn write(f: Figures, buf: &mut [u8]) -> WriteAnswer
-    ensures { λ r. ⌜ WriteRight f (now (buf .entry)) (now (buf .exit)) r ⌝ }
+    ensures { λ r. ⌜ Write.Answered f (now (buf .entry)) (now (buf .exit)) r ⌝ }
 {
     let n = put_sheet(f, &mut buf[..0]);
     if buf.len() < n {
@@ -186,7 +184,7 @@ fn read_head(t: &[u8]) -> Head
 
 // Reads a sheet. Ruled out: `01` refused at the line's end rather than at the 1; a text with a byte behind the last line accepted.
 pub fn read(t: &[u8]) -> ReadAnswer
-    ensures { λ r. ⌜ ReadRight (now (t .entry)) r ⌝ }
+    ensures { λ r. ⌜ Read.Answered (now (t .entry)) r ⌝ }
 {
     let h = read_head(t);
     let Head::Read(v, p8) = h else {

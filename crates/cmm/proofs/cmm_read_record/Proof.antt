@@ -41,7 +41,7 @@ returns : tie.Need-returns
 returns c =
     record {
       answer = read·returns c .read .result;
-      right = read·returns c .read .ensures;
+      right = read·returns c .read .ensures .right;
       told = ap (λ (x : Told). x .number) (told·returns c .told .ensures);
       place = ap (λ (n : ℕ). n ∷ []) (ap (λ (x : Told). x .place) (told·returns c .told .ensures));
       head = no-record-head (read·returns c .read .result) _ (match·returns c .match .keys2);
@@ -67,7 +67,7 @@ returns-2 c =
     let is = a·returns-2 c .a .given .1 in
     record {
       answer = read·returns-2 c .read .result;
-      right = read·returns-2 c .read .ensures;
+      right = read·returns-2 c .read .ensures .right;
       told = ap (λ (x : Told). x .number) (told·returns-2 c .told .ensures);
       place = ap (λ (n : ℕ). n ∷ []) (ap (λ (x : Told). x .place) (told·returns-2 c .told .ensures));
       head = record-head (read·returns-2 c .read .result) _ _ is;

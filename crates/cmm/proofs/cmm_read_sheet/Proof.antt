@@ -26,7 +26,7 @@ returns : tie.Need-returns
 returns c =
     record {
       answer = read·returns c .read .result;
-      right = read·returns c .read .ensures;
+      right = read·returns c .read .ensures .right;
       told = ap (λ (x : Told). x .number) (told·returns c .told .ensures);
       place = ap (λ (n : ℕ). n ∷ []) (ap (λ (x : Told). x .place) (told·returns c .told .ensures));
       figures = no-sheet-held (read·returns c .read .result) _ (match·returns c .match .keys2);
@@ -40,7 +40,7 @@ returns-2 c =
     let is = a·returns-2 c .a .given .1 in
     record {
       answer = read·returns-2 c .read .result;
-      right = read·returns-2 c .read .ensures;
+      right = read·returns-2 c .read .ensures .right;
       told = ap (λ (x : Told). x .number) (told·returns-2 c .told .ensures);
       place = ap (λ (n : ℕ). n ∷ []) (ap (λ (x : Told). x .place) (told·returns-2 c .told .ensures));
       figures = sheet-held (read·returns-2 c .read .result) _ _ _ is (c .give .ensures);

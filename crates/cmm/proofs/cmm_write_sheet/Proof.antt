@@ -31,7 +31,7 @@ returns c =
       answer = write·returns c .write .result;
       right =
           same-written (taken·returns c .taken .result) _ _ _ (write·returns c .write .result) (taken·returns c .taken .ensures)
-          (write·returns c .write .ensures);
+          (write·returns c .write .ensures .right);
       told = ap (λ (x : Told). x .number) (told·returns c .told .ensures);
       sized = ap (λ (n : ℕ). n ∷ []) (length-of·returns c .length-of .ensures);
     }

@@ -31,7 +31,7 @@ same-length : tie.Need-same-length
 same-length c = search needs
 
 returns : tie.Need-returns
-returns c = sheet-leads _ _ _ _ _ (write·returns c .write .result) (a·returns c .a .given .1) (n·returns c .n .given .1) (write·returns c .write .ensures)
+returns c = sheet-leads _ _ _ _ _ (write·returns c .write .result) (a·returns c .a .given .1) (n·returns c .n .given .1) (write·returns c .write .ensures .right)
 
 same-length-2 : tie.Need-same-length-2
 same-length-2 c = search needs
@@ -39,7 +39,7 @@ same-length-2 c = search needs
 returns-2 : tie.Need-returns-2
 returns-2 c =
     absurd (never-short (start·returns-2 c .args .a) _ _ 0 _ (write·returns-2 c .write .result) (match2·returns-2 c .match2 .keys2)
-    (write·returns-2 c .write .ensures) (start·returns-2 c .pre))
+    (write·returns-2 c .write .ensures .right) (start·returns-2 c .pre))
 
 same-length-3 : tie.Need-same-length-3
 same-length-3 c = search needs

@@ -52,7 +52,7 @@ returns c =
             flow = start·returns c .args .flow-used .now;
             content = start·returns c .args .content-used .now;
           };
-    }) _ _ _ _ (read·returns c .read .result) _ (match·returns c .match .keys2) (read·returns c .read .ensures) (told·returns c .told .ensures)
+    }) _ _ _ _ (read·returns c .read .result) _ (match·returns c .match .keys2) (read·returns c .read .ensures .right) (told·returns c .told .ensures)
     (c .put-refusal .ensures)
 
 slice-aggregate-quantified : tie.Need-slice-aggregate-quantified
@@ -81,7 +81,7 @@ slice-aggregate-quantified c =
           (read·slice-aggregate-quantified c .read .last .1 .1 .1 .1 .1 .1 .1 .1 .1 .0)
           (read·slice-aggregate-quantified c .read .last .1 .1 .1 .1 .1 .1 .1 .1 .1 .1 .0)
           (read·slice-aggregate-quantified c .read .last .1 .1 .1 .1 .1 .1 .1 .1 .1 .1 .1 .0);
-    }) (read·slice-aggregate-quantified c .read .result) (read·slice-aggregate-quantified c .read .ensures) .fuel .quantity)
+    }) (read·slice-aggregate-quantified c .read .result) (read·slice-aggregate-quantified c .read .ensures .right) .fuel .quantity)
 
 slice-aggregate-quantified-2 : tie.Need-slice-aggregate-quantified-2
 unfolding readerRows
@@ -110,7 +110,7 @@ slice-aggregate-quantified-2 c =
           (read·slice-aggregate-quantified-2 c .read .last .1 .1 .1 .1 .1 .1 .1 .1 .1 .0)
           (read·slice-aggregate-quantified-2 c .read .last .1 .1 .1 .1 .1 .1 .1 .1 .1 .1 .0)
           (read·slice-aggregate-quantified-2 c .read .last .1 .1 .1 .1 .1 .1 .1 .1 .1 .1 .1 .0);
-    }) (read·slice-aggregate-quantified-2 c .read .result) (read·slice-aggregate-quantified-2 c .read .ensures) .fuel .factor)
+    }) (read·slice-aggregate-quantified-2 c .read .result) (read·slice-aggregate-quantified-2 c .read .ensures .right) .fuel .factor)
 
 slice-aggregate-quantified-3 : tie.Need-slice-aggregate-quantified-3
 unfolding readerRows
@@ -139,7 +139,7 @@ slice-aggregate-quantified-3 c =
           (read·slice-aggregate-quantified-3 c .read .last .1 .1 .1 .1 .1 .1 .1 .1 .1 .0)
           (read·slice-aggregate-quantified-3 c .read .last .1 .1 .1 .1 .1 .1 .1 .1 .1 .1 .0)
           (read·slice-aggregate-quantified-3 c .read .last .1 .1 .1 .1 .1 .1 .1 .1 .1 .1 .1 .0);
-    }) (read·slice-aggregate-quantified-3 c .read .result) (read·slice-aggregate-quantified-3 c .read .ensures) .kinds)
+    }) (read·slice-aggregate-quantified-3 c .read .result) (read·slice-aggregate-quantified-3 c .read .ensures .right) .kinds)
 
 slice-aggregate-quantified-4 : tie.Need-slice-aggregate-quantified-4
 unfolding readerRows
@@ -168,7 +168,7 @@ slice-aggregate-quantified-4 c =
           (read·slice-aggregate-quantified-4 c .read .last .1 .1 .1 .1 .1 .1 .1 .1 .1 .0)
           (read·slice-aggregate-quantified-4 c .read .last .1 .1 .1 .1 .1 .1 .1 .1 .1 .1 .0)
           (read·slice-aggregate-quantified-4 c .read .last .1 .1 .1 .1 .1 .1 .1 .1 .1 .1 .1 .0);
-    }) (read·slice-aggregate-quantified-4 c .read .result) (read·slice-aggregate-quantified-4 c .read .ensures) .checks .counts)
+    }) (read·slice-aggregate-quantified-4 c .read .result) (read·slice-aggregate-quantified-4 c .read .ensures .right) .checks .counts)
 
 slice-aggregate-quantified-5 : tie.Need-slice-aggregate-quantified-5
 unfolding readerRows
@@ -197,7 +197,7 @@ slice-aggregate-quantified-5 c =
           (read·slice-aggregate-quantified-5 c .read .last .1 .1 .1 .1 .1 .1 .1 .1 .1 .0)
           (read·slice-aggregate-quantified-5 c .read .last .1 .1 .1 .1 .1 .1 .1 .1 .1 .1 .0)
           (read·slice-aggregate-quantified-5 c .read .last .1 .1 .1 .1 .1 .1 .1 .1 .1 .1 .1 .0);
-    }) (read·slice-aggregate-quantified-5 c .read .result) (read·slice-aggregate-quantified-5 c .read .ensures) .checks .positions)
+    }) (read·slice-aggregate-quantified-5 c .read .result) (read·slice-aggregate-quantified-5 c .read .ensures .right) .checks .positions)
 
 slice-aggregate-quantified-6 : tie.Need-slice-aggregate-quantified-6
 unfolding readerRows
@@ -226,7 +226,7 @@ slice-aggregate-quantified-6 c =
           (read·slice-aggregate-quantified-6 c .read .last .1 .1 .1 .1 .1 .1 .1 .1 .1 .0)
           (read·slice-aggregate-quantified-6 c .read .last .1 .1 .1 .1 .1 .1 .1 .1 .1 .1 .0)
           (read·slice-aggregate-quantified-6 c .read .last .1 .1 .1 .1 .1 .1 .1 .1 .1 .1 .1 .0);
-    }) (read·slice-aggregate-quantified-6 c .read .result) (read·slice-aggregate-quantified-6 c .read .ensures) .checks .drifts)
+    }) (read·slice-aggregate-quantified-6 c .read .result) (read·slice-aggregate-quantified-6 c .read .ensures .right) .checks .drifts)
 
 quantified-requires : tie.Need-quantified-requires
 unfolding readerRows
@@ -241,7 +241,7 @@ quantified-requires c κs =
             flow = start·quantified-requires c .args .flow-used .now;
             content = start·quantified-requires c .args .content-used .now;
           };
-    }) _ _ _ (a·quantified-requires c .a .given .1) (read·quantified-requires c .read .ensures)
+    }) _ _ _ (a·quantified-requires c .a .given .1) (read·quantified-requires c .read .ensures .right)
 
 put-answer-requires : tie.Need-put-answer-requires
 put-answer-requires c κs = search needs
@@ -283,7 +283,7 @@ returns-2 c =
             flow = start·returns-2 c .args .flow-used .now;
             content = start·returns-2 c .args .content-used .now;
           };
-    }) _ _ _ _ (read·returns-2 c .read .result) _ _ _ (a·returns-2 c .a .given .1) (read·returns-2 c .read .ensures)
+    }) _ _ _ _ (read·returns-2 c .read .result) _ _ _ (a·returns-2 c .a .given .1) (read·returns-2 c .read .ensures .right)
     (quantified·returns-2 c .quantified .ensures) (c .put-answer .ensures)
 
 pub report-spec : {M : Type 1} → statement M

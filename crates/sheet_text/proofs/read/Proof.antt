@@ -15,6 +15,7 @@ use Rattle.sheet_text.specs.Head.{volumesOf}
 use Rattle.text.proofs.Lines.{line-asked}
 use Rattle.sheet_text.proofs.Steps.{natural-step, signed-step, read-fit, natural-refused, signed-refused, head-read, head-refused, read-past, read-all}
 use Rattle.sheet_text.proofs.Steps.{asked-signed, signed-back}
+use Rattle.sheet_text.proofs.Settled.{read-answered}
 use Rattle.sheet_text.proofs.read.Statement.{statement}
 use Rattle.sheet_text.proofs.read.Tie as tie
 mod PlaceNames
@@ -124,8 +125,9 @@ wrong-at-requires c κs = tt
 
 returns : tie.Need-returns
 returns c =
+    read-answered _ _ (
     Refused.noSheet
-    (head-refused (read-head·returns c .read-head .result) (match·returns c .match .keys2) (c .wrong-at .ensures) (read-head·returns c .read-head .ensures))
+    (head-refused (read-head·returns c .read-head .result) (match·returns c .match .keys2) (c .wrong-at .ensures) (read-head·returns c .read-head .ensures)))
 
 slice-aggregate-read-line : tie.Need-slice-aggregate-read-line
 slice-aggregate-read-line c = refl
@@ -145,9 +147,10 @@ wrong-at-requires-2 c κs = tt
 returns-2 : tie.Need-returns-2
 unfolding schema
 returns-2 c =
+    read-answered _ _ (
     Refused.noSheet
     (natural-refused 8 (omega arith) (fact8 (known-told·returns-2 c)) (read-line·returns-2 c .read-line .result) (match2·returns-2 c .match2 .keys2)
-    (c .wrong-at2 .ensures) (read-line·returns-2 c .read-line .ensures))
+    (c .wrong-at2 .ensures) (read-line·returns-2 c .read-line .ensures)))
 
 slice-aggregate-read-line-2 : tie.Need-slice-aggregate-read-line-2
 slice-aggregate-read-line-2 c = refl
@@ -167,9 +170,10 @@ wrong-at-requires-3 c κs = tt
 returns-3 : tie.Need-returns-3
 unfolding schema
 returns-3 c =
+    read-answered _ _ (
     Refused.noSheet
     (natural-refused 9 (omega arith) (fact9 (known-told2·returns-3 c)) (read-line2·returns-3 c .read-line2 .result) (match3·returns-3 c .match3 .keys2)
-    (c .wrong-at3 .ensures) (read-line2·returns-3 c .read-line2 .ensures))
+    (c .wrong-at3 .ensures) (read-line2·returns-3 c .read-line2 .ensures)))
 
 slice-aggregate-read-line-3 : tie.Need-slice-aggregate-read-line-3
 slice-aggregate-read-line-3 c = refl
@@ -189,9 +193,10 @@ wrong-at-requires-4 c κs = tt
 returns-4 : tie.Need-returns-4
 unfolding schema
 returns-4 c =
+    read-answered _ _ (
     Refused.noSheet
     (natural-refused 10 (omega arith) (fact10 (known-told3·returns-4 c)) (read-line3·returns-4 c .read-line3 .result) (match4·returns-4 c .match4 .keys2)
-    (c .wrong-at4 .ensures) (read-line3·returns-4 c .read-line3 .ensures))
+    (c .wrong-at4 .ensures) (read-line3·returns-4 c .read-line3 .ensures)))
 
 slice-aggregate-read-line-4 : tie.Need-slice-aggregate-read-line-4
 slice-aggregate-read-line-4 c = refl
@@ -211,9 +216,10 @@ wrong-at-requires-5 c κs = tt
 returns-5 : tie.Need-returns-5
 unfolding schema
 returns-5 c =
+    read-answered _ _ (
     Refused.noSheet
     (natural-refused 11 (omega arith) (fact11 (known-told4·returns-5 c)) (read-line4·returns-5 c .read-line4 .result) (match5·returns-5 c .match5 .keys2)
-    (c .wrong-at5 .ensures) (read-line4·returns-5 c .read-line4 .ensures))
+    (c .wrong-at5 .ensures) (read-line4·returns-5 c .read-line4 .ensures)))
 
 slice-aggregate-read-signed-line : tie.Need-slice-aggregate-read-signed-line
 slice-aggregate-read-signed-line c = refl
@@ -233,9 +239,10 @@ wrong-at-requires-6 c κs = tt
 returns-6 : tie.Need-returns-6
 unfolding schema
 returns-6 c =
+    read-answered _ _ (
     Refused.noSheet
     (signed-refused 12 (omega arith) (fact12 (known-told5·returns-6 c)) (read-signed-line·returns-6 c .read-signed-line .result)
-    (match6·returns-6 c .match6 .keys2) (c .wrong-at6 .ensures) (read-signed-line·returns-6 c .read-signed-line .ensures))
+    (match6·returns-6 c .match6 .keys2) (c .wrong-at6 .ensures) (read-signed-line·returns-6 c .read-signed-line .ensures)))
 
 slice-aggregate-read-signed-line-2 : tie.Need-slice-aggregate-read-signed-line-2
 slice-aggregate-read-signed-line-2 c = refl
@@ -255,9 +262,10 @@ wrong-at-requires-7 c κs = tt
 returns-7 : tie.Need-returns-7
 unfolding schema
 returns-7 c =
+    read-answered _ _ (
     Refused.noSheet
     (signed-refused 13 (omega arith) (fact13 (known-told6·returns-7 c)) (read-signed-line2·returns-7 c .read-signed-line2 .result)
-    (match7·returns-7 c .match7 .keys2) (c .wrong-at7 .ensures) (read-signed-line2·returns-7 c .read-signed-line2 .ensures))
+    (match7·returns-7 c .match7 .keys2) (c .wrong-at7 .ensures) (read-signed-line2·returns-7 c .read-signed-line2 .ensures)))
 
 slice-aggregate-read-line-5 : tie.Need-slice-aggregate-read-line-5
 slice-aggregate-read-line-5 c = refl
@@ -277,16 +285,20 @@ wrong-at-requires-8 c κs = tt
 returns-8 : tie.Need-returns-8
 unfolding schema
 returns-8 c =
+    read-answered _ _ (
     Refused.noSheet
     (natural-refused 14 (omega arith) (fact14 (known-told7·returns-8 c)) (read-line5·returns-8 c .read-line5 .result) (match8·returns-8 c .match8 .keys2)
-    (c .wrong-at8 .ensures) (read-line5·returns-8 c .read-line5 .ensures))
+    (c .wrong-at8 .ensures) (read-line5·returns-8 c .read-line5 .ensures)))
 
 returns-9 : tie.Need-returns-9
-returns-9 c = Refused.noSheet (read-past (fact15 (known-told8·returns-9 c)) (omega (arith, c .if1 .taken)))
+returns-9 c =
+    read-answered _ _ (
+    Refused.noSheet (read-past (fact15 (known-told8·returns-9 c)) (omega (arith, c .if1 .taken))))
 
 returns-10 : tie.Need-returns-10
 unfolding valuesOf volumesOf
 returns-10 c =
+    read-answered _ _ (
     let v = h·returns-10 c .h .given .0 .0 in
     read-all (fact15 (known-told8·returns-10 c)) (omega (arith, c .if1 .left))
     (record {
@@ -309,7 +321,7 @@ returns-10 c =
     (λ i. pos (v .«intervals») ∷ pos (v .«devices») ∷ pos (v .«counted») ∷ pos (v .«replaced») ∷ pos (v .«excluded») ∷ pos (v .«methane_l») ∷ pos
     (v .«destroyed_l») ∷ pos (v .«uncombusted_l») ∷ pos (a9·returns-10 c .a9 .given .0 .0) ∷ pos (a10·returns-10 c .a10 .given .0 .0) ∷ pos
     (a11·returns-10 c .a11 .given .0 .0) ∷ pos (a12·returns-10 c .a12 .given .0 .0) ∷ back13 (known-told6·returns-10 c) i ∷ back14 (known-told7·returns-10 c) i
-    ∷ pos (a15·returns-10 c .a15 .given .0 .0) ∷ [])
+    ∷ pos (a15·returns-10 c .a15 .given .0 .0) ∷ []))
 
 pub read-spec : {M : Type 1} → statement M
 read-spec =
