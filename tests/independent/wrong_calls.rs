@@ -306,7 +306,7 @@ fn wrong_reading(rng: &Rng, call: &mut Call, i: usize, way: usize) {
         3..=5 => call.content[i] = [10_001, 65_534, rng.size(10_001, 65_534) as u16][way - 3],
         6..=10 => call.temp[i] = [-4_001, 10_001, -32_767, 32_767, rng.between(-32_767, -4_001) as i16][way - 6],
         11..=15 => call.press[i] = [1, 49_999, 300_001, u32::MAX, 65_536 * rng.size(5, 65_535) as u32][way - 11],
-        16..=18 => call.status[i] = [4, 255, rng.size(4, 255) as u8][way - 16],
+        16..=18 => call.status[i] = [4, 255, rng.pick(&[rng.size(4, 255), 128 + rng.below(4)]) as u8][way - 16],
         19 => call.flow[i] = 30_000,
         20 => call.content[i] = 10_000,
         21..=22 => call.temp[i] = [-4_000, 10_000][way - 21],
