@@ -61,3 +61,20 @@ numbers-differ = refl
 none-is-zero : lacks 0 all ≡ true
 unfolding lacks
 none-is-zero = refl
+
+-- and every refusal is in that list, so that none can be left out of it
+listed : (r : Refusal) → lacks (toldOf r .number) all ≡ false
+unfolding lacks
+listed Intervals = refl
+listed Devices = refl
+listed Lengths = refl
+listed Mine = refl
+listed (Kind device) = refl
+listed (Misplaced device) = refl
+listed (Check device check) = refl
+listed (Reading device interval) = refl
+listed (Fuel line) = refl
+listed (NoSheet offset) = refl
+listed (ShortBuffer needed) = refl
+listed (Line line) = refl
+listed Room = refl
