@@ -1,13 +1,40 @@
 -- `drainage_report::report` meets its contract: what its steps promise, together. Assumes nothing.
 use Rattle.drainage_report.proofs.Job.{ready-for, read-long, reported-refusal, reported-record}
 use Rattle.columns.specs.Series.{seriesOf, checksOf, fuelOf, seriesNow}
-use Rattle.drainage_report.specs.Report.{readerRows}
+use Rattle.drainage_record_form.specs.Rows.{Rows}
+use Rattle.drainage_record_form.proofs.Covered.{SameLong}
+use Rattle.drainage_report.specs.Report.{Lent, readerRows}
 use mathlib.Core.Path.{sym}
 use borrow.Author.Needs.{needs}
 use Rattle.drainage_report.proofs.report.Statement.{statement}
 use Rattle.drainage_report.proofs.report.Tie as tie
 mod PlaceNames
 use PlaceNames.*
+
+-- what is lent, and the rows that were read
+abbrev lent : tie.Start → Lent
+lent s =
+    record {
+      series = seriesNow (s .args .flow) (s .args .content) (s .args .temp) (s .args .press) (s .args .status);
+      results = record { outcome = s .args .outcome .now; flow = s .args .flow-used .now; content = s .args .content-used .now };
+    }
+
+abbrev rows-read : tie.After-read → Rows
+rows-read s =
+    let l = s .read .last .1 in
+    record {
+      fuel = fuelOf (l .0) (l .1 .0);
+      kinds = l .1 .1 .0;
+      checks = checksOf (l .1 .1 .1 .0) (l .1 .1 .1 .1 .0) (l .1 .1 .1 .1 .1 .0);
+      series =
+          seriesOf (l .1 .1 .1 .1 .1 .1 .0) (l .1 .1 .1 .1 .1 .1 .1 .0) (l .1 .1 .1 .1 .1 .1 .1 .1 .0) (l .1 .1 .1 .1 .1 .1 .1 .1 .1 .0)
+          (l .1 .1 .1 .1 .1 .1 .1 .1 .1 .1 .0);
+    }
+
+-- the rows are as long as before
+long : (s : tie.After-read) → SameLong (rows-read s) (readerRows (lent (start·long s)))
+unfolding readerRows
+long s = read-long (start·long s .args .t .now) (readerRows (lent (start·long s))) (rows-read s) (s .read .result) (s .read .ensures .right)
 
 read-requires : tie.Need-read-requires
 read-requires c κs = search needs
@@ -42,206 +69,38 @@ same-length-5 c = search needs
 returns : tie.Need-returns
 unfolding readerRows
 returns c =
-    reported-refusal _ (record {
-      series =
-          seriesNow (start·returns c .args .flow) (start·returns c .args .content) (start·returns c .args .temp) (start·returns c .args .press)
-          (start·returns c .args .status);
-      results =
-          record {
-            outcome = start·returns c .args .outcome .now;
-            flow = start·returns c .args .flow-used .now;
-            content = start·returns c .args .content-used .now;
-          };
-    }) _ _ _ _ (read·returns c .read .result) _ (match·returns c .match .keys2) (read·returns c .read .ensures .right) (told·returns c .told .ensures)
+    reported-refusal _ (lent (start·returns c)) _ _ _ _ (read·returns c .read .result) _ (match·returns c .match .keys2) (read·returns c .read .ensures .right)
+    (told·returns c .told .ensures)
     (c .put-refusal .ensures)
 
 slice-aggregate-quantified : tie.Need-slice-aggregate-quantified
 unfolding readerRows
-slice-aggregate-quantified c =
-    sym (read-long (start·slice-aggregate-quantified c .args .t .now)
-    (readerRows (record {
-      series =
-          seriesNow (start·slice-aggregate-quantified c .args .flow) (start·slice-aggregate-quantified c .args .content)
-          (start·slice-aggregate-quantified c .args .temp) (start·slice-aggregate-quantified c .args .press) (start·slice-aggregate-quantified c .args .status);
-      results =
-          record {
-            outcome = start·slice-aggregate-quantified c .args .outcome .now;
-            flow = start·slice-aggregate-quantified c .args .flow-used .now;
-            content = start·slice-aggregate-quantified c .args .content-used .now;
-          };
-    })) (record {
-      fuel = fuelOf (read·slice-aggregate-quantified c .read .last .1 .0) (read·slice-aggregate-quantified c .read .last .1 .1 .0);
-      kinds = read·slice-aggregate-quantified c .read .last .1 .1 .1 .0;
-      checks =
-          checksOf (read·slice-aggregate-quantified c .read .last .1 .1 .1 .1 .0) (read·slice-aggregate-quantified c .read .last .1 .1 .1 .1 .1 .0)
-          (read·slice-aggregate-quantified c .read .last .1 .1 .1 .1 .1 .1 .0);
-      series =
-          seriesOf (read·slice-aggregate-quantified c .read .last .1 .1 .1 .1 .1 .1 .1 .0)
-          (read·slice-aggregate-quantified c .read .last .1 .1 .1 .1 .1 .1 .1 .1 .0)
-          (read·slice-aggregate-quantified c .read .last .1 .1 .1 .1 .1 .1 .1 .1 .1 .0)
-          (read·slice-aggregate-quantified c .read .last .1 .1 .1 .1 .1 .1 .1 .1 .1 .1 .0)
-          (read·slice-aggregate-quantified c .read .last .1 .1 .1 .1 .1 .1 .1 .1 .1 .1 .1 .0);
-    }) (read·slice-aggregate-quantified c .read .result) (read·slice-aggregate-quantified c .read .ensures .right) .fuel .quantity)
+slice-aggregate-quantified c = sym (long (read·slice-aggregate-quantified c) .fuel .quantity)
 
 slice-aggregate-quantified-2 : tie.Need-slice-aggregate-quantified-2
 unfolding readerRows
-slice-aggregate-quantified-2 c =
-    sym (read-long (start·slice-aggregate-quantified-2 c .args .t .now)
-    (readerRows (record {
-      series =
-          seriesNow (start·slice-aggregate-quantified-2 c .args .flow) (start·slice-aggregate-quantified-2 c .args .content)
-          (start·slice-aggregate-quantified-2 c .args .temp) (start·slice-aggregate-quantified-2 c .args .press)
-          (start·slice-aggregate-quantified-2 c .args .status);
-      results =
-          record {
-            outcome = start·slice-aggregate-quantified-2 c .args .outcome .now;
-            flow = start·slice-aggregate-quantified-2 c .args .flow-used .now;
-            content = start·slice-aggregate-quantified-2 c .args .content-used .now;
-          };
-    })) (record {
-      fuel = fuelOf (read·slice-aggregate-quantified-2 c .read .last .1 .0) (read·slice-aggregate-quantified-2 c .read .last .1 .1 .0);
-      kinds = read·slice-aggregate-quantified-2 c .read .last .1 .1 .1 .0;
-      checks =
-          checksOf (read·slice-aggregate-quantified-2 c .read .last .1 .1 .1 .1 .0) (read·slice-aggregate-quantified-2 c .read .last .1 .1 .1 .1 .1 .0)
-          (read·slice-aggregate-quantified-2 c .read .last .1 .1 .1 .1 .1 .1 .0);
-      series =
-          seriesOf (read·slice-aggregate-quantified-2 c .read .last .1 .1 .1 .1 .1 .1 .1 .0)
-          (read·slice-aggregate-quantified-2 c .read .last .1 .1 .1 .1 .1 .1 .1 .1 .0)
-          (read·slice-aggregate-quantified-2 c .read .last .1 .1 .1 .1 .1 .1 .1 .1 .1 .0)
-          (read·slice-aggregate-quantified-2 c .read .last .1 .1 .1 .1 .1 .1 .1 .1 .1 .1 .0)
-          (read·slice-aggregate-quantified-2 c .read .last .1 .1 .1 .1 .1 .1 .1 .1 .1 .1 .1 .0);
-    }) (read·slice-aggregate-quantified-2 c .read .result) (read·slice-aggregate-quantified-2 c .read .ensures .right) .fuel .factor)
+slice-aggregate-quantified-2 c = sym (long (read·slice-aggregate-quantified-2 c) .fuel .factor)
 
 slice-aggregate-quantified-3 : tie.Need-slice-aggregate-quantified-3
 unfolding readerRows
-slice-aggregate-quantified-3 c =
-    sym (read-long (start·slice-aggregate-quantified-3 c .args .t .now)
-    (readerRows (record {
-      series =
-          seriesNow (start·slice-aggregate-quantified-3 c .args .flow) (start·slice-aggregate-quantified-3 c .args .content)
-          (start·slice-aggregate-quantified-3 c .args .temp) (start·slice-aggregate-quantified-3 c .args .press)
-          (start·slice-aggregate-quantified-3 c .args .status);
-      results =
-          record {
-            outcome = start·slice-aggregate-quantified-3 c .args .outcome .now;
-            flow = start·slice-aggregate-quantified-3 c .args .flow-used .now;
-            content = start·slice-aggregate-quantified-3 c .args .content-used .now;
-          };
-    })) (record {
-      fuel = fuelOf (read·slice-aggregate-quantified-3 c .read .last .1 .0) (read·slice-aggregate-quantified-3 c .read .last .1 .1 .0);
-      kinds = read·slice-aggregate-quantified-3 c .read .last .1 .1 .1 .0;
-      checks =
-          checksOf (read·slice-aggregate-quantified-3 c .read .last .1 .1 .1 .1 .0) (read·slice-aggregate-quantified-3 c .read .last .1 .1 .1 .1 .1 .0)
-          (read·slice-aggregate-quantified-3 c .read .last .1 .1 .1 .1 .1 .1 .0);
-      series =
-          seriesOf (read·slice-aggregate-quantified-3 c .read .last .1 .1 .1 .1 .1 .1 .1 .0)
-          (read·slice-aggregate-quantified-3 c .read .last .1 .1 .1 .1 .1 .1 .1 .1 .0)
-          (read·slice-aggregate-quantified-3 c .read .last .1 .1 .1 .1 .1 .1 .1 .1 .1 .0)
-          (read·slice-aggregate-quantified-3 c .read .last .1 .1 .1 .1 .1 .1 .1 .1 .1 .1 .0)
-          (read·slice-aggregate-quantified-3 c .read .last .1 .1 .1 .1 .1 .1 .1 .1 .1 .1 .1 .0);
-    }) (read·slice-aggregate-quantified-3 c .read .result) (read·slice-aggregate-quantified-3 c .read .ensures .right) .kinds)
+slice-aggregate-quantified-3 c = sym (long (read·slice-aggregate-quantified-3 c) .kinds)
 
 slice-aggregate-quantified-4 : tie.Need-slice-aggregate-quantified-4
 unfolding readerRows
-slice-aggregate-quantified-4 c =
-    sym (read-long (start·slice-aggregate-quantified-4 c .args .t .now)
-    (readerRows (record {
-      series =
-          seriesNow (start·slice-aggregate-quantified-4 c .args .flow) (start·slice-aggregate-quantified-4 c .args .content)
-          (start·slice-aggregate-quantified-4 c .args .temp) (start·slice-aggregate-quantified-4 c .args .press)
-          (start·slice-aggregate-quantified-4 c .args .status);
-      results =
-          record {
-            outcome = start·slice-aggregate-quantified-4 c .args .outcome .now;
-            flow = start·slice-aggregate-quantified-4 c .args .flow-used .now;
-            content = start·slice-aggregate-quantified-4 c .args .content-used .now;
-          };
-    })) (record {
-      fuel = fuelOf (read·slice-aggregate-quantified-4 c .read .last .1 .0) (read·slice-aggregate-quantified-4 c .read .last .1 .1 .0);
-      kinds = read·slice-aggregate-quantified-4 c .read .last .1 .1 .1 .0;
-      checks =
-          checksOf (read·slice-aggregate-quantified-4 c .read .last .1 .1 .1 .1 .0) (read·slice-aggregate-quantified-4 c .read .last .1 .1 .1 .1 .1 .0)
-          (read·slice-aggregate-quantified-4 c .read .last .1 .1 .1 .1 .1 .1 .0);
-      series =
-          seriesOf (read·slice-aggregate-quantified-4 c .read .last .1 .1 .1 .1 .1 .1 .1 .0)
-          (read·slice-aggregate-quantified-4 c .read .last .1 .1 .1 .1 .1 .1 .1 .1 .0)
-          (read·slice-aggregate-quantified-4 c .read .last .1 .1 .1 .1 .1 .1 .1 .1 .1 .0)
-          (read·slice-aggregate-quantified-4 c .read .last .1 .1 .1 .1 .1 .1 .1 .1 .1 .1 .0)
-          (read·slice-aggregate-quantified-4 c .read .last .1 .1 .1 .1 .1 .1 .1 .1 .1 .1 .1 .0);
-    }) (read·slice-aggregate-quantified-4 c .read .result) (read·slice-aggregate-quantified-4 c .read .ensures .right) .checks .counts)
+slice-aggregate-quantified-4 c = sym (long (read·slice-aggregate-quantified-4 c) .checks .counts)
 
 slice-aggregate-quantified-5 : tie.Need-slice-aggregate-quantified-5
 unfolding readerRows
-slice-aggregate-quantified-5 c =
-    sym (read-long (start·slice-aggregate-quantified-5 c .args .t .now)
-    (readerRows (record {
-      series =
-          seriesNow (start·slice-aggregate-quantified-5 c .args .flow) (start·slice-aggregate-quantified-5 c .args .content)
-          (start·slice-aggregate-quantified-5 c .args .temp) (start·slice-aggregate-quantified-5 c .args .press)
-          (start·slice-aggregate-quantified-5 c .args .status);
-      results =
-          record {
-            outcome = start·slice-aggregate-quantified-5 c .args .outcome .now;
-            flow = start·slice-aggregate-quantified-5 c .args .flow-used .now;
-            content = start·slice-aggregate-quantified-5 c .args .content-used .now;
-          };
-    })) (record {
-      fuel = fuelOf (read·slice-aggregate-quantified-5 c .read .last .1 .0) (read·slice-aggregate-quantified-5 c .read .last .1 .1 .0);
-      kinds = read·slice-aggregate-quantified-5 c .read .last .1 .1 .1 .0;
-      checks =
-          checksOf (read·slice-aggregate-quantified-5 c .read .last .1 .1 .1 .1 .0) (read·slice-aggregate-quantified-5 c .read .last .1 .1 .1 .1 .1 .0)
-          (read·slice-aggregate-quantified-5 c .read .last .1 .1 .1 .1 .1 .1 .0);
-      series =
-          seriesOf (read·slice-aggregate-quantified-5 c .read .last .1 .1 .1 .1 .1 .1 .1 .0)
-          (read·slice-aggregate-quantified-5 c .read .last .1 .1 .1 .1 .1 .1 .1 .1 .0)
-          (read·slice-aggregate-quantified-5 c .read .last .1 .1 .1 .1 .1 .1 .1 .1 .1 .0)
-          (read·slice-aggregate-quantified-5 c .read .last .1 .1 .1 .1 .1 .1 .1 .1 .1 .1 .0)
-          (read·slice-aggregate-quantified-5 c .read .last .1 .1 .1 .1 .1 .1 .1 .1 .1 .1 .1 .0);
-    }) (read·slice-aggregate-quantified-5 c .read .result) (read·slice-aggregate-quantified-5 c .read .ensures .right) .checks .positions)
+slice-aggregate-quantified-5 c = sym (long (read·slice-aggregate-quantified-5 c) .checks .positions)
 
 slice-aggregate-quantified-6 : tie.Need-slice-aggregate-quantified-6
 unfolding readerRows
-slice-aggregate-quantified-6 c =
-    sym (read-long (start·slice-aggregate-quantified-6 c .args .t .now)
-    (readerRows (record {
-      series =
-          seriesNow (start·slice-aggregate-quantified-6 c .args .flow) (start·slice-aggregate-quantified-6 c .args .content)
-          (start·slice-aggregate-quantified-6 c .args .temp) (start·slice-aggregate-quantified-6 c .args .press)
-          (start·slice-aggregate-quantified-6 c .args .status);
-      results =
-          record {
-            outcome = start·slice-aggregate-quantified-6 c .args .outcome .now;
-            flow = start·slice-aggregate-quantified-6 c .args .flow-used .now;
-            content = start·slice-aggregate-quantified-6 c .args .content-used .now;
-          };
-    })) (record {
-      fuel = fuelOf (read·slice-aggregate-quantified-6 c .read .last .1 .0) (read·slice-aggregate-quantified-6 c .read .last .1 .1 .0);
-      kinds = read·slice-aggregate-quantified-6 c .read .last .1 .1 .1 .0;
-      checks =
-          checksOf (read·slice-aggregate-quantified-6 c .read .last .1 .1 .1 .1 .0) (read·slice-aggregate-quantified-6 c .read .last .1 .1 .1 .1 .1 .0)
-          (read·slice-aggregate-quantified-6 c .read .last .1 .1 .1 .1 .1 .1 .0);
-      series =
-          seriesOf (read·slice-aggregate-quantified-6 c .read .last .1 .1 .1 .1 .1 .1 .1 .0)
-          (read·slice-aggregate-quantified-6 c .read .last .1 .1 .1 .1 .1 .1 .1 .1 .0)
-          (read·slice-aggregate-quantified-6 c .read .last .1 .1 .1 .1 .1 .1 .1 .1 .1 .0)
-          (read·slice-aggregate-quantified-6 c .read .last .1 .1 .1 .1 .1 .1 .1 .1 .1 .1 .0)
-          (read·slice-aggregate-quantified-6 c .read .last .1 .1 .1 .1 .1 .1 .1 .1 .1 .1 .1 .0);
-    }) (read·slice-aggregate-quantified-6 c .read .result) (read·slice-aggregate-quantified-6 c .read .ensures .right) .checks .drifts)
+slice-aggregate-quantified-6 c = sym (long (read·slice-aggregate-quantified-6 c) .checks .drifts)
 
 quantified-requires : tie.Need-quantified-requires
 unfolding readerRows
 quantified-requires c κs =
-    ready-for _ (record {
-      series =
-          seriesNow (start·quantified-requires c .args .flow) (start·quantified-requires c .args .content) (start·quantified-requires c .args .temp)
-          (start·quantified-requires c .args .press) (start·quantified-requires c .args .status);
-      results =
-          record {
-            outcome = start·quantified-requires c .args .outcome .now;
-            flow = start·quantified-requires c .args .flow-used .now;
-            content = start·quantified-requires c .args .content-used .now;
-          };
-    }) _ _ _ (a·quantified-requires c .a .given .1) (read·quantified-requires c .read .ensures .right)
+    ready-for _ (lent (start·quantified-requires c)) _ _ _ (a·quantified-requires c .a .given .1) (read·quantified-requires c .read .ensures .right)
 
 put-answer-requires : tie.Need-put-answer-requires
 put-answer-requires c κs = search needs
@@ -273,17 +132,8 @@ same-length-13 c = search needs
 returns-2 : tie.Need-returns-2
 unfolding readerRows
 returns-2 c =
-    reported-record _ (record {
-      series =
-          seriesNow (start·returns-2 c .args .flow) (start·returns-2 c .args .content) (start·returns-2 c .args .temp) (start·returns-2 c .args .press)
-          (start·returns-2 c .args .status);
-      results =
-          record {
-            outcome = start·returns-2 c .args .outcome .now;
-            flow = start·returns-2 c .args .flow-used .now;
-            content = start·returns-2 c .args .content-used .now;
-          };
-    }) _ _ _ _ (read·returns-2 c .read .result) _ _ _ (a·returns-2 c .a .given .1) (read·returns-2 c .read .ensures .right)
+    reported-record _ (lent (start·returns-2 c)) _ _ _ _ (read·returns-2 c .read .result) _ _ _ (a·returns-2 c .a .given .1)
+    (read·returns-2 c .read .ensures .right)
     (quantified·returns-2 c .quantified .ensures) (c .put-answer .ensures)
 
 pub report-spec : {M : Type 1} → statement M
