@@ -74,7 +74,7 @@ module _ {h : Held} {n : ℕ} {old o f c counts : List ℕ} {methane i : ℕ} (x
   unfolding entryAt
   reads-entry t e r q = rw (e, at-flow, at-content, at-flow-held, at-content-held) at q
 
-  -- where the code answered that everything is measured, what is held is in range, and it is the entry
+  -- where the code answered that everything is measured, what is held is in range, and it is the entry; u is the temperature as it is passed on
   module _ (t : ℤ) (e : t ≡ getD (h .series .temp) i (pos 0)) (b : Bool)
       (q : b ≡ allMeasured (getD (h .series .flow) i 0) (getD (h .series .content) i 0) t (getD (h .series .press) i 0) (getD (h .series .status) i 0))
       (m : b ≡ true) where
@@ -85,19 +85,20 @@ module _ {h : Held} {n : ℕ} {old o f c counts : List ℕ} {methane i : ℕ} (x
         (getD f i 0) (getD c i 0)
         (sym q ∙ m)
 
-    pub measured-inside : Inside (getD f i 0) t (getD (h .series .press) i 0) × (getD c i 0 ≤ contentMost)
-    measured-inside =
-        counted-inside (getD (h .series .flow) i 0) (getD (h .series .content) i 0) t (getD (h .series .press) i 0) (getD (h .series .status) i 0) (getD f i 0)
+    pub measured-inside : (u : ℤ) → u ≡ t → Inside (getD f i 0) u (getD (h .series .press) i 0) × (getD c i 0 ≤ contentMost)
+    measured-inside u w =
+        subst (λ (z : ℤ). Inside (getD f i 0) z (getD (h .series .press) i 0) × (getD c i 0 ≤ contentMost)) (sym w)
+        (counted-inside (getD (h .series .flow) i 0) (getD (h .series .content) i 0) t (getD (h .series .press) i 0) (getD (h .series .status) i 0) (getD f i 0)
         (getD c i 0)
-        (reads-ready t e) (subst (λ (k : ℕ). k < 3) none (let w : 0 < 3 = omega arith in w))
+        (reads-ready t e) (subst (λ (k : ℕ). k < 3) none (let y : 0 < 3 = omega arith in y)))
 
-    pub measured-entry : (litres : ℕ) → litres ≡ methaneLitres (getD f i 0) (getD c i 0) t (getD (h .series .press) i 0)
+    pub measured-entry : (u : ℤ) → u ≡ t → (litres : ℕ) → litres ≡ methaneLitres (getD f i 0) (getD c i 0) u (getD (h .series .press) i 0)
         → record { outcome = 0; flow = getD f i 0; content = getD c i 0; litres = litres } ≡ entryAt h i
-    measured-entry litres z =
+    measured-entry u w litres z =
         reads-entry t e (record { outcome = 0; flow = getD f i 0; content = getD c i 0; litres = litres })
         (counted-entry (getD (h .series .flow) i 0) (getD (h .series .content) i 0) t (getD (h .series .press) i 0) (getD (h .series .status) i 0) (getD f i 0)
         (getD c i 0)
-        0 none (omega arith) litres z)
+        0 none (omega arith) litres (z ∙ ap (λ (y : ℤ). methaneLitres (getD f i 0) (getD c i 0) y (getD (h .series .press) i 0)) w))
 
 -- ---- start, step and end
 

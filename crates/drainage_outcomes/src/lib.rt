@@ -24,6 +24,15 @@ use protocol::MISSING;
 // How many outcomes there are.
 pub const OUTCOMES: usize = 10;
 
+// One interval as recorded.
+pub struct Readings {
+    pub flow: u16,
+    pub content: u16,
+    pub temp: i16,
+    pub press: u32,
+    pub status: u8,
+}
+
 pub struct Entry {
     pub outcome: u8,
     pub flow: u16,
@@ -101,49 +110,41 @@ fn lacks(temp: i16, press: u32) -> bool
 
 // Whether an interval is counted as outcome 0: the device ran and nothing is missing. Ruled out: status 3 taken for running; a pressure of 0 taken
 // for a reading.
-fn all_measured(flow: u16, content: u16, temp: i16, press: u32, code: u8) -> bool
-    ensures { λ r. ⌜ r ≡ allMeasured flow content temp press code ⌝ }
+fn all_measured(x: Readings) -> bool
+    ensures { λ r. ⌜ r ≡ allMeasured (x .flow) (x .content) (x .temp) (x .press) (x .status) ⌝ }
 {
-    if code == 0 {
+    if x.status == 0 {
         return false;
     }
-    if code == 3 {
+    if x.status == 3 {
         return false;
     }
-    if lacks(temp, press) {
+    if lacks(x.temp, x.press) {
         return false;
     }
-    if flow == MISSING {
+    if x.flow == MISSING {
         return false;
     }
-    content != MISSING
+    x.content != MISSING
 }
 
 // One interval. Ruled out: an excluded interval with a value; litres without the content.
-pub fn settle(
-    flow: u16,
-    content: u16,
-    temp: i16,
-    press: u32,
-    status: u8,
-    flow_held: u16,
-    content_held: u16,
-) -> Entry
-    requires { ⌜ Ready flow content temp press «flow_held» «content_held» ⌝ }
-    ensures { λ r. ⌜ r ≡ entryOf flow content temp press status «flow_held» «content_held» ⌝ }
+pub fn settle(x: Readings, flow_held: u16, content_held: u16) -> Entry
+    requires { ⌜ Ready (x .flow) (x .content) (x .temp) (x .press) «flow_held» «content_held» ⌝ }
+    ensures { λ r. ⌜ r ≡ entryOf (x .flow) (x .content) (x .temp) (x .press) (x .status) «flow_held» «content_held» ⌝ }
 {
     let by_flow = held_outcome(1, flow_held);
     let by_content = held_outcome(2, content_held);
     let o = outcome(
-        status,
-        lacks(temp, press),
-        flow == MISSING,
-        content == MISSING,
+        x.status,
+        lacks(x.temp, x.press),
+        x.flow == MISSING,
+        x.content == MISSING,
         by_flow,
         by_content,
     );
     if o < 3 {
-        let litres = volume::methane_litres(flow_held, content_held, temp, press);
+        let litres = volume::methane_litres(flow_held, content_held, x.temp, x.press);
         Entry {
             outcome: o,
             flow: flow_held,
@@ -185,22 +186,24 @@ pub fn finish(
     let mut methane = 0;
     let mut i = 0;
     while i < n {
-        let f = flow[i];
-        let c = content[i];
-        let t = temp[i];
-        let p = press[i];
-        let code = status[i];
+        let x = Readings {
+            flow: flow[i],
+            content: content[i],
+            temp: temp[i],
+            press: press[i],
+            status: status[i],
+        };
         let f_held = flow_used[i];
         let c_held = content_used[i];
-        if all_measured(f, c, t, p, code) {
+        if all_measured(x) {
             // The commonest interval: its values stand in the rows already.
-            let litres = volume::methane_litres(f_held, c_held, t, p);
+            let litres = volume::methane_litres(f_held, c_held, x.temp, x.press);
             outcome[i] = 0;
             outcomes[0] += 1;
             methane = methane + litres;
             i += 1;
         } else {
-            let e = settle(f, c, t, p, code, f_held, c_held);
+            let e = settle(x, f_held, c_held);
             let o = e.outcome;
             outcome[i] = o;
             flow_used[i] = e.flow;

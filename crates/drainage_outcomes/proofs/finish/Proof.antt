@@ -47,45 +47,46 @@ whole : (c : tie.After-methane-litres Inv-loop μ-loop) → let t = turn (all-me
     }
     ≡ entryAt (rows t) (t .before .loop .i)
 whole c =
-    measured-entry (loop·whole c .loop .inv) (loop-test·whole c .loop-test .taken) _ (toZ-ofZ (record { sfits = t·whole c .t .given }))
-    _ (all-measured·whole c .all-measured .ensures) (if1·whole c .if1 .taken) _ (c .methane-litres .ensures .0)
+    measured-entry (loop·whole c .loop .inv) (loop-test·whole c .loop-test .taken) _ (toZ-ofZ (record { sfits = t29·whole c .t29 .given })) _
+    (all-measured·whole c .all-measured .ensures) (if1·whole c .if1 .taken) _
+    (toZ-ofZ (record { sfits = struct-told·whole c .struct-told .given .1 .1 .0 .1 })) _ (c .methane-litres .ensures .0)
 
 got : (c : tie.After-settle Inv-loop μ-loop) → let t = turn (all-measured·got c) in c .settle .result ≡ entryAt (rows t) (t .before .loop .i)
 got c =
-    reads-entry (loop·got c .loop .inv) (loop-test·got c .loop-test .taken) _ (toZ-ofZ (record { sfits = t·got c .t .given })) _ (c .settle .ensures)
+    reads-entry (loop·got c .loop .inv) (loop-test·got c .loop-test .taken) _ (toZ-ofZ (record { sfits = t29·got c .t29 .given })) _ (c .settle .ensures)
 
 loop-holds : tie.Need-loop-holds Inv-loop μ-loop
 loop-holds c = going-none _ _ _ _ (start·loop-holds c .pre .0) (start·loop-holds c .pre .1) refl (λ j h. zeros 10 j)
 
-mul-f : tie.Need-mul-f Inv-loop μ-loop
-mul-f c = index-fits (loop·mul-f c .loop .inv) (c .loop-test .taken) .0
-
-shared-slice-read-f : tie.Need-shared-slice-read-f Inv-loop μ-loop
-shared-slice-read-f c = inside-series (loop·shared-slice-read-f c .loop .inv) (loop-test·shared-slice-read-f c .loop-test .taken) .flow
-
-mul-c : tie.Need-mul-c Inv-loop μ-loop
-mul-c c = index-fits (loop·mul-c c .loop .inv) (loop-test·mul-c c .loop-test .taken) .0
-
-shared-slice-read-c : tie.Need-shared-slice-read-c Inv-loop μ-loop
-shared-slice-read-c c = inside-series (loop·shared-slice-read-c c .loop .inv) (loop-test·shared-slice-read-c c .loop-test .taken) .content
-
-mul-t : tie.Need-mul-t Inv-loop μ-loop
-mul-t c = index-fits (loop·mul-t c .loop .inv) (loop-test·mul-t c .loop-test .taken) .0
-
-shared-slice-copy-out-t : tie.Need-shared-slice-copy-out-t Inv-loop μ-loop
-shared-slice-copy-out-t c = inside-series (loop·shared-slice-copy-out-t c .loop .inv) (loop-test·shared-slice-copy-out-t c .loop-test .taken) .temp
-
-mul-p : tie.Need-mul-p Inv-loop μ-loop
-mul-p c = index-fits (loop·mul-p c .loop .inv) (loop-test·mul-p c .loop-test .taken) .1
-
-shared-slice-read-p : tie.Need-shared-slice-read-p Inv-loop μ-loop
-shared-slice-read-p c = inside-series (loop·shared-slice-read-p c .loop .inv) (loop-test·shared-slice-read-p c .loop-test .taken) .press
-
-shared-slice-read-code : tie.Need-shared-slice-read-code Inv-loop μ-loop
-shared-slice-read-code c = inside-series (loop·shared-slice-read-code c .loop .inv) (loop-test·shared-slice-read-code c .loop-test .taken) .status
-
 mul-f-held : tie.Need-mul-f-held Inv-loop μ-loop
-mul-f-held c = index-fits (loop·mul-f-held c .loop .inv) (loop-test·mul-f-held c .loop-test .taken) .0
+mul-f-held c = index-fits (loop·mul-f-held c .loop .inv) (c .loop-test .taken) .0
+
+shared-slice-read-f-held : tie.Need-shared-slice-read-f-held Inv-loop μ-loop
+shared-slice-read-f-held c = inside-series (loop·shared-slice-read-f-held c .loop .inv) (loop-test·shared-slice-read-f-held c .loop-test .taken) .flow
+
+mul-t24 : tie.Need-mul-t24 Inv-loop μ-loop
+mul-t24 c = index-fits (loop·mul-t24 c .loop .inv) (loop-test·mul-t24 c .loop-test .taken) .0
+
+shared-slice-read-t26 : tie.Need-shared-slice-read-t26 Inv-loop μ-loop
+shared-slice-read-t26 c = inside-series (loop·shared-slice-read-t26 c .loop .inv) (loop-test·shared-slice-read-t26 c .loop-test .taken) .content
+
+mul-t27 : tie.Need-mul-t27 Inv-loop μ-loop
+mul-t27 c = index-fits (loop·mul-t27 c .loop .inv) (loop-test·mul-t27 c .loop-test .taken) .0
+
+shared-slice-copy-out-t29 : tie.Need-shared-slice-copy-out-t29 Inv-loop μ-loop
+shared-slice-copy-out-t29 c = inside-series (loop·shared-slice-copy-out-t29 c .loop .inv) (loop-test·shared-slice-copy-out-t29 c .loop-test .taken) .temp
+
+mul-t30 : tie.Need-mul-t30 Inv-loop μ-loop
+mul-t30 c = index-fits (loop·mul-t30 c .loop .inv) (loop-test·mul-t30 c .loop-test .taken) .1
+
+shared-slice-read-t32 : tie.Need-shared-slice-read-t32 Inv-loop μ-loop
+shared-slice-read-t32 c = inside-series (loop·shared-slice-read-t32 c .loop .inv) (loop-test·shared-slice-read-t32 c .loop-test .taken) .press
+
+shared-slice-read-t34 : tie.Need-shared-slice-read-t34 Inv-loop μ-loop
+shared-slice-read-t34 c = inside-series (loop·shared-slice-read-t34 c .loop .inv) (loop-test·shared-slice-read-t34 c .loop-test .taken) .status
+
+mul-f-held-2 : tie.Need-mul-f-held-2 Inv-loop μ-loop
+mul-f-held-2 c = index-fits (loop·mul-f-held-2 c .loop .inv) (loop-test·mul-f-held-2 c .loop-test .taken) .0
 
 slice-read-f-held : tie.Need-slice-read-f-held Inv-loop μ-loop
 slice-read-f-held c = inside-rows (loop·slice-read-f-held c .loop .inv) (loop-test·slice-read-f-held c .loop-test .taken) .1
@@ -102,7 +103,9 @@ all-measured-requires c κs = tt
 methane-litres-requires : tie.Need-methane-litres-requires Inv-loop μ-loop
 methane-litres-requires c κs =
     measured-inside (loop·methane-litres-requires c .loop .inv) (loop-test·methane-litres-requires c .loop-test .taken) _
-    (toZ-ofZ (record { sfits = t·methane-litres-requires c .t .given })) _ (all-measured·methane-litres-requires c .all-measured .ensures) (c .if1 .taken)
+    (toZ-ofZ (record { sfits = t29·methane-litres-requires c .t29 .given })) _ (all-measured·methane-litres-requires c .all-measured .ensures)
+    (if1·methane-litres-requires c .if1 .taken) _
+    (toZ-ofZ (record { sfits = c .struct-told .given .1 .1 .0 .1 }))
 
 slice-write-outcome : tie.Need-slice-write-outcome Inv-loop μ-loop
 slice-write-outcome c = omega (arith, inside-rows (loop·slice-write-outcome c .loop .inv) (loop-test·slice-write-outcome c .loop-test .taken) .0)
@@ -131,7 +134,7 @@ loop-again c = going-kept (loop·loop-again c .loop .inv) (loop-test·loop-again
 settle-requires : tie.Need-settle-requires Inv-loop μ-loop
 settle-requires c κs =
     reads-ready (loop·settle-requires c .loop .inv) (loop-test·settle-requires c .loop-test .taken) _
-    (toZ-ofZ (record { sfits = t·settle-requires c .t .given }))
+    (toZ-ofZ (record { sfits = t29·settle-requires c .t29 .given }))
 
 slice-write-outcome-2 : tie.Need-slice-write-outcome-2 Inv-loop μ-loop
 slice-write-outcome-2 c = omega (arith, inside-rows (loop·slice-write-outcome-2 c .loop .inv) (loop-test·slice-write-outcome-2 c .loop-test .taken) .0)
@@ -196,16 +199,16 @@ finish-spec =
     Inv-loop
     μ-loop
     loop-holds
-    mul-f
-    shared-slice-read-f
-    mul-c
-    shared-slice-read-c
-    mul-t
-    shared-slice-copy-out-t
-    mul-p
-    shared-slice-read-p
-    shared-slice-read-code
     mul-f-held
+    shared-slice-read-f-held
+    mul-t24
+    shared-slice-read-t26
+    mul-t27
+    shared-slice-copy-out-t29
+    mul-t30
+    shared-slice-read-t32
+    shared-slice-read-t34
+    mul-f-held-2
     slice-read-f-held
     mul-c-held
     slice-read-c-held

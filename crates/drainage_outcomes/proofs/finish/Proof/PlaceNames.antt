@@ -11,8 +11,8 @@ module _ {Inv-loop : tie.InvT-loop} {μ-loop : tie.MeasureT-loop} where
   abbrev pub start·same-length : tie.After-loop Inv-loop μ-loop → tie.Start Inv-loop μ-loop
   start·same-length c = start·loop-holds (c .before .before)
 
-  abbrev pub loop·mul-f : tie.In-loop Inv-loop μ-loop → tie.At-loop Inv-loop μ-loop
-  loop·mul-f c = c .before
+  abbrev pub loop·mul-f-held : tie.In-loop Inv-loop μ-loop → tie.At-loop Inv-loop μ-loop
+  loop·mul-f-held c = c .before
 
   abbrev pub loop·same-length : tie.After-loop Inv-loop μ-loop → tie.At-loop Inv-loop μ-loop
   loop·same-length c = c .before
@@ -26,35 +26,35 @@ module _ {Inv-loop : tie.InvT-loop} {μ-loop : tie.MeasureT-loop} where
   abbrev pub loop·returns : tie.After-loop Inv-loop μ-loop → tie.At-loop Inv-loop μ-loop
   loop·returns c = loop·same-length c
 
-  abbrev pub loop·shared-slice-read-f : tie.After-shared-slice-known5 Inv-loop μ-loop → tie.At-loop Inv-loop μ-loop
-  loop·shared-slice-read-f c = loop·mul-f (c .before)
+  abbrev pub loop·shared-slice-read-f-held : tie.After-shared-slice-known5 Inv-loop μ-loop → tie.At-loop Inv-loop μ-loop
+  loop·shared-slice-read-f-held c = loop·mul-f-held (c .before)
 
-  abbrev pub loop·mul-c : tie.After-shared-slice-known5 Inv-loop μ-loop → tie.At-loop Inv-loop μ-loop
-  loop·mul-c c = loop·shared-slice-read-f c
+  abbrev pub loop·mul-t24 : tie.After-shared-slice-known5 Inv-loop μ-loop → tie.At-loop Inv-loop μ-loop
+  loop·mul-t24 c = loop·shared-slice-read-f-held c
 
-  abbrev pub loop·shared-slice-read-c : tie.After-shared-slice-known6 Inv-loop μ-loop → tie.At-loop Inv-loop μ-loop
-  loop·shared-slice-read-c c = loop·shared-slice-read-f (c .before)
+  abbrev pub loop·shared-slice-read-t26 : tie.After-shared-slice-known6 Inv-loop μ-loop → tie.At-loop Inv-loop μ-loop
+  loop·shared-slice-read-t26 c = loop·shared-slice-read-f-held (c .before)
 
-  abbrev pub loop·mul-t : tie.After-shared-slice-known6 Inv-loop μ-loop → tie.At-loop Inv-loop μ-loop
-  loop·mul-t c = loop·shared-slice-read-c c
+  abbrev pub loop·mul-t27 : tie.After-shared-slice-known6 Inv-loop μ-loop → tie.At-loop Inv-loop μ-loop
+  loop·mul-t27 c = loop·shared-slice-read-t26 c
 
-  abbrev pub loop·shared-slice-copy-out-t : tie.After-shared-slice-known6 Inv-loop μ-loop → tie.At-loop Inv-loop μ-loop
-  loop·shared-slice-copy-out-t c = loop·shared-slice-read-c c
+  abbrev pub loop·shared-slice-copy-out-t29 : tie.After-shared-slice-known6 Inv-loop μ-loop → tie.At-loop Inv-loop μ-loop
+  loop·shared-slice-copy-out-t29 c = loop·shared-slice-read-t26 c
 
-  abbrev pub loop·mul-p : tie.After-t Inv-loop μ-loop → tie.At-loop Inv-loop μ-loop
-  loop·mul-p c = loop·shared-slice-read-c (c .before)
+  abbrev pub loop·mul-t30 : tie.After-t29 Inv-loop μ-loop → tie.At-loop Inv-loop μ-loop
+  loop·mul-t30 c = loop·shared-slice-read-t26 (c .before)
 
-  abbrev pub loop·shared-slice-read-p : tie.After-shared-slice-known7 Inv-loop μ-loop → tie.At-loop Inv-loop μ-loop
-  loop·shared-slice-read-p c = loop·mul-p (c .before)
+  abbrev pub loop·shared-slice-read-t32 : tie.After-shared-slice-known7 Inv-loop μ-loop → tie.At-loop Inv-loop μ-loop
+  loop·shared-slice-read-t32 c = loop·mul-t30 (c .before)
 
-  abbrev pub loop·shared-slice-read-code : tie.After-shared-slice-known8 Inv-loop μ-loop → tie.At-loop Inv-loop μ-loop
-  loop·shared-slice-read-code c = loop·shared-slice-read-p (c .before)
+  abbrev pub loop·shared-slice-read-t34 : tie.After-shared-slice-known8 Inv-loop μ-loop → tie.At-loop Inv-loop μ-loop
+  loop·shared-slice-read-t34 c = loop·shared-slice-read-t32 (c .before)
 
-  abbrev pub loop·mul-f-held : tie.After-shared-slice-known8 Inv-loop μ-loop → tie.At-loop Inv-loop μ-loop
-  loop·mul-f-held c = loop·shared-slice-read-code c
+  abbrev pub loop·mul-f-held-2 : tie.After-shared-slice-known8 Inv-loop μ-loop → tie.At-loop Inv-loop μ-loop
+  loop·mul-f-held-2 c = loop·shared-slice-read-t34 c
 
   abbrev pub loop·slice-read-f-held : tie.After-slice-known4 Inv-loop μ-loop → tie.At-loop Inv-loop μ-loop
-  loop·slice-read-f-held c = loop·shared-slice-read-code (c .before)
+  loop·slice-read-f-held c = loop·shared-slice-read-t34 (c .before)
 
   abbrev pub loop·mul-c-held : tie.After-slice-known4 Inv-loop μ-loop → tie.At-loop Inv-loop μ-loop
   loop·mul-c-held c = loop·slice-read-f-held c
@@ -62,32 +62,11 @@ module _ {Inv-loop : tie.InvT-loop} {μ-loop : tie.MeasureT-loop} where
   abbrev pub loop·slice-read-c-held : tie.After-slice-known5 Inv-loop μ-loop → tie.At-loop Inv-loop μ-loop
   loop·slice-read-c-held c = loop·slice-read-f-held (c .before)
 
-  abbrev pub loop·methane-litres-requires : tie.Then1 Inv-loop μ-loop → tie.At-loop Inv-loop μ-loop
-  loop·methane-litres-requires c = loop·slice-read-c-held (c .before .before)
-
   abbrev pub loop·settle-requires : tie.Else1 Inv-loop μ-loop → tie.At-loop Inv-loop μ-loop
   loop·settle-requires c = loop·slice-read-c-held (c .before .before)
 
-  abbrev pub loop·whole : tie.After-methane-litres Inv-loop μ-loop → tie.At-loop Inv-loop μ-loop
-  loop·whole c = loop·methane-litres-requires (c .before)
-
-  abbrev pub loop·slice-write-outcome : tie.After-methane-litres Inv-loop μ-loop → tie.At-loop Inv-loop μ-loop
-  loop·slice-write-outcome c = loop·whole c
-
-  abbrev pub loop·add-outcomes : tie.After-methane-litres Inv-loop μ-loop → tie.At-loop Inv-loop μ-loop
-  loop·add-outcomes c = loop·whole c
-
-  abbrev pub loop·add-methane : tie.After-methane-litres Inv-loop μ-loop → tie.At-loop Inv-loop μ-loop
-  loop·add-methane c = loop·whole c
-
-  abbrev pub loop·add-i : tie.After-methane-litres Inv-loop μ-loop → tie.At-loop Inv-loop μ-loop
-  loop·add-i c = loop·whole c
-
-  abbrev pub loop·loop-less : tie.After-methane-litres Inv-loop μ-loop → tie.At-loop Inv-loop μ-loop
-  loop·loop-less c = loop·whole c
-
-  abbrev pub loop·loop-again : tie.After-methane-litres Inv-loop μ-loop → tie.At-loop Inv-loop μ-loop
-  loop·loop-again c = loop·whole c
+  abbrev pub loop·methane-litres-requires : tie.After-struct-told Inv-loop μ-loop → tie.At-loop Inv-loop μ-loop
+  loop·methane-litres-requires c = loop·slice-read-c-held (c .before .before .before)
 
   abbrev pub loop·got : tie.After-settle Inv-loop μ-loop → tie.At-loop Inv-loop μ-loop
   loop·got c = loop·settle-requires (c .before)
@@ -122,6 +101,27 @@ module _ {Inv-loop : tie.InvT-loop} {μ-loop : tie.MeasureT-loop} where
   abbrev pub loop·array-write-outcomes-2 : tie.After-settle Inv-loop μ-loop → tie.At-loop Inv-loop μ-loop
   loop·array-write-outcomes-2 c = loop·got c
 
+  abbrev pub loop·whole : tie.After-methane-litres Inv-loop μ-loop → tie.At-loop Inv-loop μ-loop
+  loop·whole c = loop·methane-litres-requires (c .before)
+
+  abbrev pub loop·slice-write-outcome : tie.After-methane-litres Inv-loop μ-loop → tie.At-loop Inv-loop μ-loop
+  loop·slice-write-outcome c = loop·whole c
+
+  abbrev pub loop·add-outcomes : tie.After-methane-litres Inv-loop μ-loop → tie.At-loop Inv-loop μ-loop
+  loop·add-outcomes c = loop·whole c
+
+  abbrev pub loop·add-methane : tie.After-methane-litres Inv-loop μ-loop → tie.At-loop Inv-loop μ-loop
+  loop·add-methane c = loop·whole c
+
+  abbrev pub loop·add-i : tie.After-methane-litres Inv-loop μ-loop → tie.At-loop Inv-loop μ-loop
+  loop·add-i c = loop·whole c
+
+  abbrev pub loop·loop-less : tie.After-methane-litres Inv-loop μ-loop → tie.At-loop Inv-loop μ-loop
+  loop·loop-less c = loop·whole c
+
+  abbrev pub loop·loop-again : tie.After-methane-litres Inv-loop μ-loop → tie.At-loop Inv-loop μ-loop
+  loop·loop-again c = loop·whole c
+
   abbrev pub loop·add-methane-2 : tie.After-struct-known Inv-loop μ-loop → tie.At-loop Inv-loop μ-loop
   loop·add-methane-2 c = loop·got (c .before)
 
@@ -134,35 +134,35 @@ module _ {Inv-loop : tie.InvT-loop} {μ-loop : tie.MeasureT-loop} where
   abbrev pub loop·loop-again-2 : tie.After-struct-known Inv-loop μ-loop → tie.At-loop Inv-loop μ-loop
   loop·loop-again-2 c = loop·add-methane-2 c
 
-  abbrev pub loop-test·shared-slice-read-f : tie.After-shared-slice-known5 Inv-loop μ-loop → tie.In-loop Inv-loop μ-loop
-  loop-test·shared-slice-read-f c = c .before
+  abbrev pub loop-test·shared-slice-read-f-held : tie.After-shared-slice-known5 Inv-loop μ-loop → tie.In-loop Inv-loop μ-loop
+  loop-test·shared-slice-read-f-held c = c .before
 
-  abbrev pub loop-test·mul-c : tie.After-shared-slice-known5 Inv-loop μ-loop → tie.In-loop Inv-loop μ-loop
-  loop-test·mul-c c = loop-test·shared-slice-read-f c
+  abbrev pub loop-test·mul-t24 : tie.After-shared-slice-known5 Inv-loop μ-loop → tie.In-loop Inv-loop μ-loop
+  loop-test·mul-t24 c = loop-test·shared-slice-read-f-held c
 
-  abbrev pub loop-test·shared-slice-read-c : tie.After-shared-slice-known6 Inv-loop μ-loop → tie.In-loop Inv-loop μ-loop
-  loop-test·shared-slice-read-c c = loop-test·shared-slice-read-f (c .before)
+  abbrev pub loop-test·shared-slice-read-t26 : tie.After-shared-slice-known6 Inv-loop μ-loop → tie.In-loop Inv-loop μ-loop
+  loop-test·shared-slice-read-t26 c = loop-test·shared-slice-read-f-held (c .before)
 
-  abbrev pub loop-test·mul-t : tie.After-shared-slice-known6 Inv-loop μ-loop → tie.In-loop Inv-loop μ-loop
-  loop-test·mul-t c = loop-test·shared-slice-read-c c
+  abbrev pub loop-test·mul-t27 : tie.After-shared-slice-known6 Inv-loop μ-loop → tie.In-loop Inv-loop μ-loop
+  loop-test·mul-t27 c = loop-test·shared-slice-read-t26 c
 
-  abbrev pub loop-test·shared-slice-copy-out-t : tie.After-shared-slice-known6 Inv-loop μ-loop → tie.In-loop Inv-loop μ-loop
-  loop-test·shared-slice-copy-out-t c = loop-test·shared-slice-read-c c
+  abbrev pub loop-test·shared-slice-copy-out-t29 : tie.After-shared-slice-known6 Inv-loop μ-loop → tie.In-loop Inv-loop μ-loop
+  loop-test·shared-slice-copy-out-t29 c = loop-test·shared-slice-read-t26 c
 
-  abbrev pub loop-test·mul-p : tie.After-t Inv-loop μ-loop → tie.In-loop Inv-loop μ-loop
-  loop-test·mul-p c = loop-test·shared-slice-read-c (c .before)
+  abbrev pub loop-test·mul-t30 : tie.After-t29 Inv-loop μ-loop → tie.In-loop Inv-loop μ-loop
+  loop-test·mul-t30 c = loop-test·shared-slice-read-t26 (c .before)
 
-  abbrev pub loop-test·shared-slice-read-p : tie.After-shared-slice-known7 Inv-loop μ-loop → tie.In-loop Inv-loop μ-loop
-  loop-test·shared-slice-read-p c = loop-test·mul-p (c .before)
+  abbrev pub loop-test·shared-slice-read-t32 : tie.After-shared-slice-known7 Inv-loop μ-loop → tie.In-loop Inv-loop μ-loop
+  loop-test·shared-slice-read-t32 c = loop-test·mul-t30 (c .before)
 
-  abbrev pub loop-test·shared-slice-read-code : tie.After-shared-slice-known8 Inv-loop μ-loop → tie.In-loop Inv-loop μ-loop
-  loop-test·shared-slice-read-code c = loop-test·shared-slice-read-p (c .before)
+  abbrev pub loop-test·shared-slice-read-t34 : tie.After-shared-slice-known8 Inv-loop μ-loop → tie.In-loop Inv-loop μ-loop
+  loop-test·shared-slice-read-t34 c = loop-test·shared-slice-read-t32 (c .before)
 
-  abbrev pub loop-test·mul-f-held : tie.After-shared-slice-known8 Inv-loop μ-loop → tie.In-loop Inv-loop μ-loop
-  loop-test·mul-f-held c = loop-test·shared-slice-read-code c
+  abbrev pub loop-test·mul-f-held-2 : tie.After-shared-slice-known8 Inv-loop μ-loop → tie.In-loop Inv-loop μ-loop
+  loop-test·mul-f-held-2 c = loop-test·shared-slice-read-t34 c
 
   abbrev pub loop-test·slice-read-f-held : tie.After-slice-known4 Inv-loop μ-loop → tie.In-loop Inv-loop μ-loop
-  loop-test·slice-read-f-held c = loop-test·shared-slice-read-code (c .before)
+  loop-test·slice-read-f-held c = loop-test·shared-slice-read-t34 (c .before)
 
   abbrev pub loop-test·mul-c-held : tie.After-slice-known4 Inv-loop μ-loop → tie.In-loop Inv-loop μ-loop
   loop-test·mul-c-held c = loop-test·slice-read-f-held c
@@ -173,29 +173,11 @@ module _ {Inv-loop : tie.InvT-loop} {μ-loop : tie.MeasureT-loop} where
   abbrev pub loop-test·turn : tie.After-all-measured Inv-loop μ-loop → tie.In-loop Inv-loop μ-loop
   loop-test·turn c = loop-test·slice-read-c-held (c .before)
 
-  abbrev pub loop-test·methane-litres-requires : tie.Then1 Inv-loop μ-loop → tie.In-loop Inv-loop μ-loop
-  loop-test·methane-litres-requires c = loop-test·turn (c .before)
-
   abbrev pub loop-test·settle-requires : tie.Else1 Inv-loop μ-loop → tie.In-loop Inv-loop μ-loop
   loop-test·settle-requires c = loop-test·turn (c .before)
 
-  abbrev pub loop-test·whole : tie.After-methane-litres Inv-loop μ-loop → tie.In-loop Inv-loop μ-loop
-  loop-test·whole c = loop-test·methane-litres-requires (c .before)
-
-  abbrev pub loop-test·slice-write-outcome : tie.After-methane-litres Inv-loop μ-loop → tie.In-loop Inv-loop μ-loop
-  loop-test·slice-write-outcome c = loop-test·whole c
-
-  abbrev pub loop-test·add-methane : tie.After-methane-litres Inv-loop μ-loop → tie.In-loop Inv-loop μ-loop
-  loop-test·add-methane c = loop-test·whole c
-
-  abbrev pub loop-test·add-i : tie.After-methane-litres Inv-loop μ-loop → tie.In-loop Inv-loop μ-loop
-  loop-test·add-i c = loop-test·whole c
-
-  abbrev pub loop-test·loop-less : tie.After-methane-litres Inv-loop μ-loop → tie.In-loop Inv-loop μ-loop
-  loop-test·loop-less c = loop-test·whole c
-
-  abbrev pub loop-test·loop-again : tie.After-methane-litres Inv-loop μ-loop → tie.In-loop Inv-loop μ-loop
-  loop-test·loop-again c = loop-test·whole c
+  abbrev pub loop-test·methane-litres-requires : tie.After-struct-told Inv-loop μ-loop → tie.In-loop Inv-loop μ-loop
+  loop-test·methane-litres-requires c = loop-test·turn (c .before .before)
 
   abbrev pub loop-test·got : tie.After-settle Inv-loop μ-loop → tie.In-loop Inv-loop μ-loop
   loop-test·got c = loop-test·settle-requires (c .before)
@@ -230,6 +212,24 @@ module _ {Inv-loop : tie.InvT-loop} {μ-loop : tie.MeasureT-loop} where
   abbrev pub loop-test·array-write-outcomes-2 : tie.After-settle Inv-loop μ-loop → tie.In-loop Inv-loop μ-loop
   loop-test·array-write-outcomes-2 c = loop-test·got c
 
+  abbrev pub loop-test·whole : tie.After-methane-litres Inv-loop μ-loop → tie.In-loop Inv-loop μ-loop
+  loop-test·whole c = loop-test·methane-litres-requires (c .before)
+
+  abbrev pub loop-test·slice-write-outcome : tie.After-methane-litres Inv-loop μ-loop → tie.In-loop Inv-loop μ-loop
+  loop-test·slice-write-outcome c = loop-test·whole c
+
+  abbrev pub loop-test·add-methane : tie.After-methane-litres Inv-loop μ-loop → tie.In-loop Inv-loop μ-loop
+  loop-test·add-methane c = loop-test·whole c
+
+  abbrev pub loop-test·add-i : tie.After-methane-litres Inv-loop μ-loop → tie.In-loop Inv-loop μ-loop
+  loop-test·add-i c = loop-test·whole c
+
+  abbrev pub loop-test·loop-less : tie.After-methane-litres Inv-loop μ-loop → tie.In-loop Inv-loop μ-loop
+  loop-test·loop-less c = loop-test·whole c
+
+  abbrev pub loop-test·loop-again : tie.After-methane-litres Inv-loop μ-loop → tie.In-loop Inv-loop μ-loop
+  loop-test·loop-again c = loop-test·whole c
+
   abbrev pub loop-test·add-methane-2 : tie.After-struct-known Inv-loop μ-loop → tie.In-loop Inv-loop μ-loop
   loop-test·add-methane-2 c = loop-test·got (c .before)
 
@@ -242,29 +242,35 @@ module _ {Inv-loop : tie.InvT-loop} {μ-loop : tie.MeasureT-loop} where
   abbrev pub loop-test·loop-again-2 : tie.After-struct-known Inv-loop μ-loop → tie.In-loop Inv-loop μ-loop
   loop-test·loop-again-2 c = loop-test·add-methane-2 c
 
-  abbrev pub t·methane-litres-requires : tie.Then1 Inv-loop μ-loop → tie.After-t Inv-loop μ-loop
-  t·methane-litres-requires c = c .before .before .before .before .before .before
+  abbrev pub t29·settle-requires : tie.Else1 Inv-loop μ-loop → tie.After-t29 Inv-loop μ-loop
+  t29·settle-requires c = c .before .before .before .before .before .before
 
-  abbrev pub t·settle-requires : tie.Else1 Inv-loop μ-loop → tie.After-t Inv-loop μ-loop
-  t·settle-requires c = c .before .before .before .before .before .before
+  abbrev pub t29·methane-litres-requires : tie.After-struct-told Inv-loop μ-loop → tie.After-t29 Inv-loop μ-loop
+  t29·methane-litres-requires c = c .before .before .before .before .before .before .before
 
-  abbrev pub t·whole : tie.After-methane-litres Inv-loop μ-loop → tie.After-t Inv-loop μ-loop
-  t·whole c = t·methane-litres-requires (c .before)
+  abbrev pub t29·got : tie.After-settle Inv-loop μ-loop → tie.After-t29 Inv-loop μ-loop
+  t29·got c = t29·settle-requires (c .before)
 
-  abbrev pub t·got : tie.After-settle Inv-loop μ-loop → tie.After-t Inv-loop μ-loop
-  t·got c = t·settle-requires (c .before)
+  abbrev pub t29·whole : tie.After-methane-litres Inv-loop μ-loop → tie.After-t29 Inv-loop μ-loop
+  t29·whole c = t29·methane-litres-requires (c .before)
 
-  abbrev pub all-measured·methane-litres-requires : tie.Then1 Inv-loop μ-loop → tie.After-all-measured Inv-loop μ-loop
-  all-measured·methane-litres-requires c = c .before
-
-  abbrev pub all-measured·whole : tie.After-methane-litres Inv-loop μ-loop → tie.After-all-measured Inv-loop μ-loop
-  all-measured·whole c = all-measured·methane-litres-requires (c .before)
+  abbrev pub all-measured·methane-litres-requires : tie.After-struct-told Inv-loop μ-loop → tie.After-all-measured Inv-loop μ-loop
+  all-measured·methane-litres-requires c = c .before .before
 
   abbrev pub all-measured·got : tie.After-settle Inv-loop μ-loop → tie.After-all-measured Inv-loop μ-loop
   all-measured·got c = c .before .before
 
+  abbrev pub all-measured·whole : tie.After-methane-litres Inv-loop μ-loop → tie.After-all-measured Inv-loop μ-loop
+  all-measured·whole c = all-measured·methane-litres-requires (c .before)
+
+  abbrev pub if1·methane-litres-requires : tie.After-struct-told Inv-loop μ-loop → tie.Then1 Inv-loop μ-loop
+  if1·methane-litres-requires c = c .before
+
   abbrev pub if1·whole : tie.After-methane-litres Inv-loop μ-loop → tie.Then1 Inv-loop μ-loop
-  if1·whole c = c .before
+  if1·whole c = if1·methane-litres-requires (c .before)
+
+  abbrev pub struct-told·whole : tie.After-methane-litres Inv-loop μ-loop → tie.After-struct-told Inv-loop μ-loop
+  struct-told·whole c = c .before
 
   abbrev pub settle·add-methane-2 : tie.After-struct-known Inv-loop μ-loop → tie.After-settle Inv-loop μ-loop
   settle·add-methane-2 c = c .before
@@ -275,12 +281,12 @@ module _ {Inv-loop : tie.InvT-loop} {μ-loop : tie.MeasureT-loop} where
 -- What the code binds and asks, in order, as it was when this was generated:
 --   After-shared-slice-known/shared-slice-known After-shared-slice-known2/shared-slice-known2 After-shared-slice-known3/shared-slice-known3
 --   After-shared-slice-known4/shared-slice-known4 After-slice-known/slice-known After-slice-known2/slice-known2 After-slice-known3/slice-known3 ?loop-holds
---   At-loop/loop In-loop/loop-test After-loop/loop-test ?mul-f After-shared-slice-known5/shared-slice-known5 ?shared-slice-read-f ?mul-c
---   After-shared-slice-known6/shared-slice-known6 ?shared-slice-read-c ?mul-t ?shared-slice-copy-out-t After-t/t ?mul-p
---   After-shared-slice-known7/shared-slice-known7 ?shared-slice-read-p After-shared-slice-known8/shared-slice-known8 ?shared-slice-read-code ?mul-f-held
+--   At-loop/loop In-loop/loop-test After-loop/loop-test ?mul-f-held After-shared-slice-known5/shared-slice-known5 ?shared-slice-read-f-held ?mul-t24
+--   After-shared-slice-known6/shared-slice-known6 ?shared-slice-read-t26 ?mul-t27 ?shared-slice-copy-out-t29 After-t29/t29 ?mul-t30
+--   After-shared-slice-known7/shared-slice-known7 ?shared-slice-read-t32 After-shared-slice-known8/shared-slice-known8 ?shared-slice-read-t34 ?mul-f-held-2
 --   After-slice-known4/slice-known4 ?slice-read-f-held ?mul-c-held After-slice-known5/slice-known5 ?slice-read-c-held ?all-measured-requires
---   After-all-measured/all-measured Then1/if1 ?methane-litres-requires After-methane-litres/methane-litres ?slice-write-outcome ?array-read-outcomes
---   ?add-outcomes ?array-write-outcomes ?add-methane ?add-i ?loop-less ?loop-again Else1/if1 ?settle-requires After-settle/settle ?slice-write-outcome-2
---   ?mul-flow-used ?slice-write-flow-used ?mul-content-used ?slice-write-content-used ?cast-k ?mul-outcomes ?array-read-outcomes-2 ?add-outcomes-2
---   ?array-write-outcomes-2 After-struct-known/struct-known ?add-methane-2 ?add-i-2 ?loop-less-2 ?loop-again-2 ?same-length ?same-length-2 ?same-length-3
---   ?returns
+--   After-all-measured/all-measured Then1/if1 After-struct-told/struct-told ?methane-litres-requires After-methane-litres/methane-litres ?slice-write-outcome
+--   ?array-read-outcomes ?add-outcomes ?array-write-outcomes ?add-methane ?add-i ?loop-less ?loop-again Else1/if1 ?settle-requires After-settle/settle
+--   ?slice-write-outcome-2 ?mul-flow-used ?slice-write-flow-used ?mul-content-used ?slice-write-content-used ?cast-k ?mul-outcomes ?array-read-outcomes-2
+--   ?add-outcomes-2 ?array-write-outcomes-2 After-struct-known/struct-known ?add-methane-2 ?add-i-2 ?loop-less-2 ?loop-again-2 ?same-length ?same-length-2
+--   ?same-length-3 ?returns
