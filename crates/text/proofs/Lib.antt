@@ -1,5 +1,6 @@
 pub mod Decimals
 pub mod Forms
+pub mod Keyed
 pub mod Numbers
 pub mod Keys
 pub mod Writing

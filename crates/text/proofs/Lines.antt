@@ -16,7 +16,7 @@ use Rattle.text.specs.Form.{Form, Of, ReadAs, Broken}
 use Rattle.text.specs.Decimal.{Range, number}
 use Rattle.text.specs.Line.{line}
 use Rattle.text.specs.Answer.{NaturalIn, SignedIn, wrongAt, signedWrongAt, Matched, Asked}
-use Rattle.text.proofs.Numbers.{line-read, line-broken}
+use Rattle.text.proofs.Keyed.{keyed-read, keyed-broken}
 
 -- What the reader of an unsigned line is asked, at any place of the text.
 pub line-asked : {t : List ℕ} {p most : ℕ} → p ≤ length t → Asked t p 0 most 10
@@ -47,9 +47,9 @@ module _ (f : Form ℤ) (t : List ℕ) (i : ℕ) where
 
 module _ (t : List ℕ) (i n : ℕ) (key : List ℕ) (r : Range) (m : Matched t i key n) (h : length key ≤ n) where
   pub line-natural : (a : Natural) → NaturalIn (number r 10) t (i + n) a → NaturalIn (line key r) t i a
-  line-natural (Natural.Value v stop) p = line-read t i n key r m stop (pos v) h p
-  line-natural (Natural.Wrong k) p = line-broken t i n key r m k h p
+  line-natural (Natural.Value v stop) p = keyed-read key (number r 10) t i n m stop (pos v) h p
+  line-natural (Natural.Wrong k) p = keyed-broken key (number r 10) t i n m k h p
 
   pub line-signed : (a : Signed) → SignedIn (number r 10) t (i + n) a → SignedIn (line key r) t i a
-  line-signed (Signed.Value z stop) p = line-read t i n key r m stop z h p
-  line-signed (Signed.Wrong k) p = line-broken t i n key r m k h p
+  line-signed (Signed.Value z stop) p = keyed-read key (number r 10) t i n m stop z h p
+  line-signed (Signed.Wrong k) p = keyed-broken key (number r 10) t i n m k h p

@@ -8,15 +8,14 @@ use mathlib.Core.Logic.{_⊎_, inl, inr, ⊎-elim}
 use native.Mathlib.Omega.{arith}
 use native.Mathlib.Nat.{add-zero}
 use native.Mathlib.Numerals.{add-one}
-use lib.ListN.{length, getD, take, drop, take-append-drop, List·getD-append}
-use lib.Seq.{drop-cons, length-take-le, take-all, take-suc}
+use lib.ListN.{length, getD, take, drop, List·getD-append}
+use lib.Seq.{drop-cons, length-take-le, take-suc}
 use lib.IntN.{ℤ, pos, negsuc}
 use lib.Dec.{ltb}
 use borrow.Author.Tests.{lt-ltb, le-ltb}
 use Rattle.text.specs.Form.{Of, Begun, Started, Stands, ReadAs, Broken}
 use Rattle.text.specs.Decimal.{dec, decimal, Range, Fit, number, plain, signed}
 use Rattle.text.specs.Line.{line}
-use Rattle.text.specs.Answer.{Matched}
 use Rattle.text.proofs.Decimals.{Digit, digits, dec-one, follows, Follows, value, value-dec, value-take, dec-ten}
 use Rattle.text.proofs.Forms.{Free, cancel, stands-none, stands-one, stands-join}
 
@@ -242,66 +241,3 @@ key-step t key i n hk ht e s =
     ap (λ (c : ℕ). take n key ++ (c ∷ [])) e ∙ sym (take-suc key n 0 hk) ∙ ap (λ (k : ℕ). take k key) (sym (add-one n))
     in
     rw (← place, ← text) (stands-one t i (i + n) (take n key) s ht)
-
-module _ (t : List ℕ) (i n : ℕ) (key : List ℕ) (r : Range) (m : Matched t i key n) where
-  abbrev key-stands : length key ≤ n → Stands t i (i + n) key
-  key-stands h = subst (Stands t i (i + n)) (take-all n key h) (m .stands)
-
-  pub line-read : (stop : ℕ) (z : ℤ) → length key ≤ n → ReadAs (number r 10) t (i + n) stop z → ReadAs (line key r) t i stop z
-  line-read stop z h a = record { taken = a .taken; stands = stands-join t i (i + n) stop key (decimal z ++ (10 ∷ [])) (key-stands h) (a .stands) }
-
-  pub line-broken : (k : ℕ) → length key ≤ n → Broken (Of (number r 10)) t (i + n) k → Broken (Of (line key r)) t i k
-  line-broken k h b = record {
-    read = key ++ b .read;
-    stands = stands-join t i (i + n) k key (b .read) (key-stands h) (b .stands);
-    begins = record {
-      next = b .begins .next;
-      rest = b .begins .rest;
-      belongs = record {
-        value = b .begins .belongs .value;
-        taken = b .begins .belongs .taken;
-        is = append-assoc key (b .read) (b .begins .next ∷ b .begins .rest) ∙ ap (λ (l : List ℕ). key ++ l) (b .begins .belongs .is);
-      };
-    };
-    ends = λ inside x.
-        b .ends inside
-        (record {
-          rest = x .rest;
-          belongs = record {
-            value = x .belongs .value;
-            taken = x .belongs .taken;
-            is = cancel key _ _
-                (sym (append-assoc key (b .read ++ (getD t k 0 ∷ [])) (x .rest))
-                ∙ ap (λ (l : List ℕ). l ++ x .rest) (sym (append-assoc key (b .read) (getD t k 0 ∷ [])))
-                ∙ x .belongs .is);
-          };
-        });
-  }
-
-  pub key-broken : (z : ℤ) → Fit r z → n < length key → Broken (Of (line key r)) t i (i + n)
-  key-broken z hz h =
-      let key-is : key ≡ take n key ++ (getD key n 0 ∷ drop (suc n) key) =
-      sym (take-append-drop n key) ∙ ap (λ (l : List ℕ). take n key ++ l) (drop-cons key n 0 h)
-      in
-      record {
-        read = take n key;
-        stands = m .stands;
-        begins = record {
-          next = getD key n 0;
-          rest = drop (suc n) key ++ (decimal z ++ (10 ∷ []));
-          belongs = record {
-            value = z;
-            taken = hz;
-            is =
-                sym (append-assoc (take n key) (getD key n 0 ∷ drop (suc n) key) (decimal z ++ (10 ∷ []))) ∙ ap (λ (l : List ℕ). l ++ (decimal z ++ (10 ∷ [])))
-                (sym key-is);
-          };
-        };
-        ends = λ inside x.
-            m .ends h inside
-            (ap (λ (l : List ℕ). getD l 0 0)
-            (cancel (take n key) (getD t (i + n) 0 ∷ x .rest) (getD key n 0 ∷ (drop (suc n) key ++ (decimal (x .belongs .value) ++ (10 ∷ []))))
-            (sym (append-assoc (take n key) (getD t (i + n) 0 ∷ []) (x .rest)) ∙ x .belongs .is
-            ∙ ap (λ (l : List ℕ). l ++ (decimal (x .belongs .value) ++ (10 ∷ []))) key-is
-            ∙ append-assoc (take n key) (getD key n 0 ∷ drop (suc n) key) (decimal (x .belongs .value) ++ (10 ∷ [])))));
-      }

@@ -2,8 +2,8 @@
 use native.Mathlib.Omega.{arith}
 use lib.IntN.{pos}
 use denote.Ref.{now}
-use Rattle.text.specs.Decimal.{plain}
-use Rattle.text.proofs.Numbers.{key-broken}
+use Rattle.text.specs.Decimal.{plain, number}
+use Rattle.text.proofs.Keyed.{key-broken}
 use Rattle.text.proofs.Lines.{line-natural}
 use borrow.Author.Needs.{needs}
 use Rattle.text.proofs.read_line.Statement.{statement}
@@ -20,7 +20,7 @@ add-t9 c = search needs
 returns : tie.Need-returns
 returns c =
     let a = start·returns c .args in
-    key-broken (now (a .t)) (a .start) (matched·returns c .matched .result) (now (a .key)) (plain (a .least) (a .most)) (matched·returns c .matched .ensures)
+    key-broken (now (a .key)) (number (plain (a .least) (a .most)) 10) (now (a .t)) (a .start) (matched·returns c .matched .result) (matched·returns c .matched .ensures)
     (pos (a .most)) (start·returns c .pre .range, omega arith) (c .if1 .taken)
 
 add-read-natural : tie.Need-add-read-natural

@@ -2,8 +2,8 @@
 use native.Mathlib.Omega.{arith}
 use lib.IntN.{pos}
 use denote.Ref.{now}
-use Rattle.text.specs.Decimal.{signed}
-use Rattle.text.proofs.Numbers.{key-broken}
+use Rattle.text.specs.Decimal.{signed, number}
+use Rattle.text.proofs.Keyed.{key-broken}
 use Rattle.text.proofs.Lines.{line-signed}
 use borrow.Author.Needs.{needs}
 use Rattle.text.proofs.read_signed_line.Statement.{statement}
@@ -20,7 +20,7 @@ add-t9 c = search needs
 returns : tie.Need-returns
 returns c =
     let a = start·returns c .args in
-    key-broken (now (a .t)) (a .start) (matched·returns c .matched .result) (now (a .key)) (signed (a .below) (a .most)) (matched·returns c .matched .ensures)
+    key-broken (now (a .key)) (number (signed (a .below) (a .most)) 10) (now (a .t)) (a .start) (matched·returns c .matched .result) (matched·returns c .matched .ensures)
     (pos 0) (omega arith, omega arith) (c .if1 .taken)
 
 add-read-signed : tie.Need-add-read-signed
