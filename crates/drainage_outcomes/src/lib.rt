@@ -193,17 +193,15 @@ pub fn finish(
             press: press[i],
             status: status[i],
         };
-        let f_held = flow_used[i];
-        let c_held = content_used[i];
         if all_measured(x) {
             // The commonest interval: its values stand in the rows already.
-            let litres = volume::methane_litres(f_held, c_held, x.temp, x.press);
+            let litres = volume::methane_litres(flow_used[i], content_used[i], x.temp, x.press);
             outcome[i] = 0;
             outcomes[0] += 1;
             methane = methane + litres;
             i += 1;
         } else {
-            let e = settle(x, f_held, c_held);
+            let e = settle(x, flow_used[i], content_used[i]);
             let o = e.outcome;
             outcome[i] = o;
             flow_used[i] = e.flow;

@@ -47,63 +47,63 @@ whole : (c : tie.After-methane-litres Inv-loop μ-loop) → let t = turn (all-me
     }
     ≡ entryAt (rows t) (t .before .loop .i)
 whole c =
-    measured-entry (loop·whole c .loop .inv) (loop-test·whole c .loop-test .taken) _ (toZ-ofZ (record { sfits = t29·whole c .t29 .given })) _
+    measured-entry (loop·whole c .loop .inv) (loop-test·whole c .loop-test .taken) _ (toZ-ofZ (record { sfits = t27·whole c .t27 .given })) _
     (all-measured·whole c .all-measured .ensures) (if1·whole c .if1 .taken) _
     (toZ-ofZ (record { sfits = struct-told·whole c .struct-told .given .1 .1 .0 .1 })) _ (c .methane-litres .ensures .0)
 
 got : (c : tie.After-settle Inv-loop μ-loop) → let t = turn (all-measured·got c) in c .settle .result ≡ entryAt (rows t) (t .before .loop .i)
 got c =
-    reads-entry (loop·got c .loop .inv) (loop-test·got c .loop-test .taken) _ (toZ-ofZ (record { sfits = t29·got c .t29 .given })) _ (c .settle .ensures)
+    reads-entry (loop·got c .loop .inv) (loop-test·got c .loop-test .taken) _ (toZ-ofZ (record { sfits = t27·got c .t27 .given })) _ (c .settle .ensures)
 
 loop-holds : tie.Need-loop-holds Inv-loop μ-loop
 loop-holds c = going-none _ _ _ _ (start·loop-holds c .pre .0) (start·loop-holds c .pre .1) refl (λ j h. zeros 10 j)
 
-mul-f-held : tie.Need-mul-f-held Inv-loop μ-loop
-mul-f-held c = index-fits (loop·mul-f-held c .loop .inv) (c .loop-test .taken) .0
+mul-t19 : tie.Need-mul-t19 Inv-loop μ-loop
+mul-t19 c = index-fits (loop·mul-t19 c .loop .inv) (c .loop-test .taken) .0
 
-shared-slice-read-f-held : tie.Need-shared-slice-read-f-held Inv-loop μ-loop
-shared-slice-read-f-held c = inside-series (loop·shared-slice-read-f-held c .loop .inv) (loop-test·shared-slice-read-f-held c .loop-test .taken) .flow
+shared-slice-read-t21 : tie.Need-shared-slice-read-t21 Inv-loop μ-loop
+shared-slice-read-t21 c = inside-series (loop·shared-slice-read-t21 c .loop .inv) (loop-test·shared-slice-read-t21 c .loop-test .taken) .flow
 
-mul-t24 : tie.Need-mul-t24 Inv-loop μ-loop
-mul-t24 c = index-fits (loop·mul-t24 c .loop .inv) (loop-test·mul-t24 c .loop-test .taken) .0
+mul-t22 : tie.Need-mul-t22 Inv-loop μ-loop
+mul-t22 c = index-fits (loop·mul-t22 c .loop .inv) (loop-test·mul-t22 c .loop-test .taken) .0
 
-shared-slice-read-t26 : tie.Need-shared-slice-read-t26 Inv-loop μ-loop
-shared-slice-read-t26 c = inside-series (loop·shared-slice-read-t26 c .loop .inv) (loop-test·shared-slice-read-t26 c .loop-test .taken) .content
+shared-slice-read-t24 : tie.Need-shared-slice-read-t24 Inv-loop μ-loop
+shared-slice-read-t24 c = inside-series (loop·shared-slice-read-t24 c .loop .inv) (loop-test·shared-slice-read-t24 c .loop-test .taken) .content
 
-mul-t27 : tie.Need-mul-t27 Inv-loop μ-loop
-mul-t27 c = index-fits (loop·mul-t27 c .loop .inv) (loop-test·mul-t27 c .loop-test .taken) .0
+mul-t25 : tie.Need-mul-t25 Inv-loop μ-loop
+mul-t25 c = index-fits (loop·mul-t25 c .loop .inv) (loop-test·mul-t25 c .loop-test .taken) .0
 
-shared-slice-copy-out-t29 : tie.Need-shared-slice-copy-out-t29 Inv-loop μ-loop
-shared-slice-copy-out-t29 c = inside-series (loop·shared-slice-copy-out-t29 c .loop .inv) (loop-test·shared-slice-copy-out-t29 c .loop-test .taken) .temp
+shared-slice-copy-out-t27 : tie.Need-shared-slice-copy-out-t27 Inv-loop μ-loop
+shared-slice-copy-out-t27 c = inside-series (loop·shared-slice-copy-out-t27 c .loop .inv) (loop-test·shared-slice-copy-out-t27 c .loop-test .taken) .temp
 
-mul-t30 : tie.Need-mul-t30 Inv-loop μ-loop
-mul-t30 c = index-fits (loop·mul-t30 c .loop .inv) (loop-test·mul-t30 c .loop-test .taken) .1
+mul-t28 : tie.Need-mul-t28 Inv-loop μ-loop
+mul-t28 c = index-fits (loop·mul-t28 c .loop .inv) (loop-test·mul-t28 c .loop-test .taken) .1
+
+shared-slice-read-t30 : tie.Need-shared-slice-read-t30 Inv-loop μ-loop
+shared-slice-read-t30 c = inside-series (loop·shared-slice-read-t30 c .loop .inv) (loop-test·shared-slice-read-t30 c .loop-test .taken) .press
 
 shared-slice-read-t32 : tie.Need-shared-slice-read-t32 Inv-loop μ-loop
-shared-slice-read-t32 c = inside-series (loop·shared-slice-read-t32 c .loop .inv) (loop-test·shared-slice-read-t32 c .loop-test .taken) .press
-
-shared-slice-read-t34 : tie.Need-shared-slice-read-t34 Inv-loop μ-loop
-shared-slice-read-t34 c = inside-series (loop·shared-slice-read-t34 c .loop .inv) (loop-test·shared-slice-read-t34 c .loop-test .taken) .status
-
-mul-f-held-2 : tie.Need-mul-f-held-2 Inv-loop μ-loop
-mul-f-held-2 c = index-fits (loop·mul-f-held-2 c .loop .inv) (loop-test·mul-f-held-2 c .loop-test .taken) .0
-
-slice-read-f-held : tie.Need-slice-read-f-held Inv-loop μ-loop
-slice-read-f-held c = inside-rows (loop·slice-read-f-held c .loop .inv) (loop-test·slice-read-f-held c .loop-test .taken) .1
-
-mul-c-held : tie.Need-mul-c-held Inv-loop μ-loop
-mul-c-held c = index-fits (loop·mul-c-held c .loop .inv) (loop-test·mul-c-held c .loop-test .taken) .0
-
-slice-read-c-held : tie.Need-slice-read-c-held Inv-loop μ-loop
-slice-read-c-held c = inside-rows (loop·slice-read-c-held c .loop .inv) (loop-test·slice-read-c-held c .loop-test .taken) .2
+shared-slice-read-t32 c = inside-series (loop·shared-slice-read-t32 c .loop .inv) (loop-test·shared-slice-read-t32 c .loop-test .taken) .status
 
 all-measured-requires : tie.Need-all-measured-requires Inv-loop μ-loop
 all-measured-requires c κs = tt
 
+mul-methane-litres : tie.Need-mul-methane-litres Inv-loop μ-loop
+mul-methane-litres c = index-fits (loop·mul-methane-litres c .loop .inv) (loop-test·mul-methane-litres c .loop-test .taken) .0
+
+slice-read-methane-litres : tie.Need-slice-read-methane-litres Inv-loop μ-loop
+slice-read-methane-litres c = inside-rows (loop·slice-read-methane-litres c .loop .inv) (loop-test·slice-read-methane-litres c .loop-test .taken) .1
+
+mul-methane-litres-2 : tie.Need-mul-methane-litres-2 Inv-loop μ-loop
+mul-methane-litres-2 c = index-fits (loop·mul-methane-litres-2 c .loop .inv) (loop-test·mul-methane-litres-2 c .loop-test .taken) .0
+
+slice-read-methane-litres-2 : tie.Need-slice-read-methane-litres-2 Inv-loop μ-loop
+slice-read-methane-litres-2 c = inside-rows (loop·slice-read-methane-litres-2 c .loop .inv) (loop-test·slice-read-methane-litres-2 c .loop-test .taken) .2
+
 methane-litres-requires : tie.Need-methane-litres-requires Inv-loop μ-loop
 methane-litres-requires c κs =
     measured-inside (loop·methane-litres-requires c .loop .inv) (loop-test·methane-litres-requires c .loop-test .taken) _
-    (toZ-ofZ (record { sfits = t29·methane-litres-requires c .t29 .given })) _ (all-measured·methane-litres-requires c .all-measured .ensures)
+    (toZ-ofZ (record { sfits = t27·methane-litres-requires c .t27 .given })) _ (all-measured·methane-litres-requires c .all-measured .ensures)
     (if1·methane-litres-requires c .if1 .taken) _
     (toZ-ofZ (record { sfits = c .struct-told .given .1 .1 .0 .1 }))
 
@@ -131,10 +131,22 @@ loop-less c = turns-less (loop·loop-less c .loop .inv) (loop-test·loop-less c 
 loop-again : tie.Need-loop-again Inv-loop μ-loop
 loop-again c = going-kept (loop·loop-again c .loop .inv) (loop-test·loop-again c .loop-test .taken) _ (whole c) refl refl
 
+mul-settle : tie.Need-mul-settle Inv-loop μ-loop
+mul-settle c = index-fits (loop·mul-settle c .loop .inv) (loop-test·mul-settle c .loop-test .taken) .0
+
+slice-read-settle : tie.Need-slice-read-settle Inv-loop μ-loop
+slice-read-settle c = inside-rows (loop·slice-read-settle c .loop .inv) (loop-test·slice-read-settle c .loop-test .taken) .1
+
+mul-settle-2 : tie.Need-mul-settle-2 Inv-loop μ-loop
+mul-settle-2 c = index-fits (loop·mul-settle-2 c .loop .inv) (loop-test·mul-settle-2 c .loop-test .taken) .0
+
+slice-read-settle-2 : tie.Need-slice-read-settle-2 Inv-loop μ-loop
+slice-read-settle-2 c = inside-rows (loop·slice-read-settle-2 c .loop .inv) (loop-test·slice-read-settle-2 c .loop-test .taken) .2
+
 settle-requires : tie.Need-settle-requires Inv-loop μ-loop
 settle-requires c κs =
     reads-ready (loop·settle-requires c .loop .inv) (loop-test·settle-requires c .loop-test .taken) _
-    (toZ-ofZ (record { sfits = t29·settle-requires c .t29 .given }))
+    (toZ-ofZ (record { sfits = t27·settle-requires c .t27 .given }))
 
 slice-write-outcome-2 : tie.Need-slice-write-outcome-2 Inv-loop μ-loop
 slice-write-outcome-2 c = omega (arith, inside-rows (loop·slice-write-outcome-2 c .loop .inv) (loop-test·slice-write-outcome-2 c .loop-test .taken) .0)
@@ -199,20 +211,20 @@ finish-spec =
     Inv-loop
     μ-loop
     loop-holds
-    mul-f-held
-    shared-slice-read-f-held
-    mul-t24
-    shared-slice-read-t26
-    mul-t27
-    shared-slice-copy-out-t29
-    mul-t30
+    mul-t19
+    shared-slice-read-t21
+    mul-t22
+    shared-slice-read-t24
+    mul-t25
+    shared-slice-copy-out-t27
+    mul-t28
+    shared-slice-read-t30
     shared-slice-read-t32
-    shared-slice-read-t34
-    mul-f-held-2
-    slice-read-f-held
-    mul-c-held
-    slice-read-c-held
     all-measured-requires
+    mul-methane-litres
+    slice-read-methane-litres
+    mul-methane-litres-2
+    slice-read-methane-litres-2
     methane-litres-requires
     slice-write-outcome
     array-read-outcomes
@@ -222,6 +234,10 @@ finish-spec =
     add-i
     loop-less
     loop-again
+    mul-settle
+    slice-read-settle
+    mul-settle-2
+    slice-read-settle-2
     settle-requires
     slice-write-outcome-2
     mul-flow-used

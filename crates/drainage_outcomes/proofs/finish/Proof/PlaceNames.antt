@@ -11,8 +11,8 @@ module _ {Inv-loop : tie.InvT-loop} {μ-loop : tie.MeasureT-loop} where
   abbrev pub start·same-length : tie.After-loop Inv-loop μ-loop → tie.Start Inv-loop μ-loop
   start·same-length c = start·loop-holds (c .before .before)
 
-  abbrev pub loop·mul-f-held : tie.In-loop Inv-loop μ-loop → tie.At-loop Inv-loop μ-loop
-  loop·mul-f-held c = c .before
+  abbrev pub loop·mul-t19 : tie.In-loop Inv-loop μ-loop → tie.At-loop Inv-loop μ-loop
+  loop·mul-t19 c = c .before
 
   abbrev pub loop·same-length : tie.After-loop Inv-loop μ-loop → tie.At-loop Inv-loop μ-loop
   loop·same-length c = c .before
@@ -26,50 +26,62 @@ module _ {Inv-loop : tie.InvT-loop} {μ-loop : tie.MeasureT-loop} where
   abbrev pub loop·returns : tie.After-loop Inv-loop μ-loop → tie.At-loop Inv-loop μ-loop
   loop·returns c = loop·same-length c
 
-  abbrev pub loop·shared-slice-read-f-held : tie.After-shared-slice-known5 Inv-loop μ-loop → tie.At-loop Inv-loop μ-loop
-  loop·shared-slice-read-f-held c = loop·mul-f-held (c .before)
+  abbrev pub loop·shared-slice-read-t21 : tie.After-shared-slice-known5 Inv-loop μ-loop → tie.At-loop Inv-loop μ-loop
+  loop·shared-slice-read-t21 c = loop·mul-t19 (c .before)
 
-  abbrev pub loop·mul-t24 : tie.After-shared-slice-known5 Inv-loop μ-loop → tie.At-loop Inv-loop μ-loop
-  loop·mul-t24 c = loop·shared-slice-read-f-held c
+  abbrev pub loop·mul-t22 : tie.After-shared-slice-known5 Inv-loop μ-loop → tie.At-loop Inv-loop μ-loop
+  loop·mul-t22 c = loop·shared-slice-read-t21 c
 
-  abbrev pub loop·shared-slice-read-t26 : tie.After-shared-slice-known6 Inv-loop μ-loop → tie.At-loop Inv-loop μ-loop
-  loop·shared-slice-read-t26 c = loop·shared-slice-read-f-held (c .before)
+  abbrev pub loop·shared-slice-read-t24 : tie.After-shared-slice-known6 Inv-loop μ-loop → tie.At-loop Inv-loop μ-loop
+  loop·shared-slice-read-t24 c = loop·shared-slice-read-t21 (c .before)
 
-  abbrev pub loop·mul-t27 : tie.After-shared-slice-known6 Inv-loop μ-loop → tie.At-loop Inv-loop μ-loop
-  loop·mul-t27 c = loop·shared-slice-read-t26 c
+  abbrev pub loop·mul-t25 : tie.After-shared-slice-known6 Inv-loop μ-loop → tie.At-loop Inv-loop μ-loop
+  loop·mul-t25 c = loop·shared-slice-read-t24 c
 
-  abbrev pub loop·shared-slice-copy-out-t29 : tie.After-shared-slice-known6 Inv-loop μ-loop → tie.At-loop Inv-loop μ-loop
-  loop·shared-slice-copy-out-t29 c = loop·shared-slice-read-t26 c
+  abbrev pub loop·shared-slice-copy-out-t27 : tie.After-shared-slice-known6 Inv-loop μ-loop → tie.At-loop Inv-loop μ-loop
+  loop·shared-slice-copy-out-t27 c = loop·shared-slice-read-t24 c
 
-  abbrev pub loop·mul-t30 : tie.After-t29 Inv-loop μ-loop → tie.At-loop Inv-loop μ-loop
-  loop·mul-t30 c = loop·shared-slice-read-t26 (c .before)
+  abbrev pub loop·mul-t28 : tie.After-t27 Inv-loop μ-loop → tie.At-loop Inv-loop μ-loop
+  loop·mul-t28 c = loop·shared-slice-read-t24 (c .before)
 
-  abbrev pub loop·shared-slice-read-t32 : tie.After-shared-slice-known7 Inv-loop μ-loop → tie.At-loop Inv-loop μ-loop
-  loop·shared-slice-read-t32 c = loop·mul-t30 (c .before)
+  abbrev pub loop·shared-slice-read-t30 : tie.After-shared-slice-known7 Inv-loop μ-loop → tie.At-loop Inv-loop μ-loop
+  loop·shared-slice-read-t30 c = loop·mul-t28 (c .before)
 
-  abbrev pub loop·shared-slice-read-t34 : tie.After-shared-slice-known8 Inv-loop μ-loop → tie.At-loop Inv-loop μ-loop
-  loop·shared-slice-read-t34 c = loop·shared-slice-read-t32 (c .before)
+  abbrev pub loop·shared-slice-read-t32 : tie.After-shared-slice-known8 Inv-loop μ-loop → tie.At-loop Inv-loop μ-loop
+  loop·shared-slice-read-t32 c = loop·shared-slice-read-t30 (c .before)
 
-  abbrev pub loop·mul-f-held-2 : tie.After-shared-slice-known8 Inv-loop μ-loop → tie.At-loop Inv-loop μ-loop
-  loop·mul-f-held-2 c = loop·shared-slice-read-t34 c
+  abbrev pub loop·mul-methane-litres : tie.Then1 Inv-loop μ-loop → tie.At-loop Inv-loop μ-loop
+  loop·mul-methane-litres c = loop·shared-slice-read-t32 (c .before .before)
 
-  abbrev pub loop·slice-read-f-held : tie.After-slice-known4 Inv-loop μ-loop → tie.At-loop Inv-loop μ-loop
-  loop·slice-read-f-held c = loop·shared-slice-read-t34 (c .before)
+  abbrev pub loop·mul-settle : tie.Else1 Inv-loop μ-loop → tie.At-loop Inv-loop μ-loop
+  loop·mul-settle c = loop·shared-slice-read-t32 (c .before .before)
 
-  abbrev pub loop·mul-c-held : tie.After-slice-known4 Inv-loop μ-loop → tie.At-loop Inv-loop μ-loop
-  loop·mul-c-held c = loop·slice-read-f-held c
+  abbrev pub loop·slice-read-methane-litres : tie.After-slice-known4 Inv-loop μ-loop → tie.At-loop Inv-loop μ-loop
+  loop·slice-read-methane-litres c = loop·mul-methane-litres (c .before)
 
-  abbrev pub loop·slice-read-c-held : tie.After-slice-known5 Inv-loop μ-loop → tie.At-loop Inv-loop μ-loop
-  loop·slice-read-c-held c = loop·slice-read-f-held (c .before)
+  abbrev pub loop·mul-methane-litres-2 : tie.After-slice-known4 Inv-loop μ-loop → tie.At-loop Inv-loop μ-loop
+  loop·mul-methane-litres-2 c = loop·slice-read-methane-litres c
 
-  abbrev pub loop·settle-requires : tie.Else1 Inv-loop μ-loop → tie.At-loop Inv-loop μ-loop
-  loop·settle-requires c = loop·slice-read-c-held (c .before .before)
+  abbrev pub loop·slice-read-settle : tie.After-slice-known6 Inv-loop μ-loop → tie.At-loop Inv-loop μ-loop
+  loop·slice-read-settle c = loop·mul-settle (c .before)
+
+  abbrev pub loop·mul-settle-2 : tie.After-slice-known6 Inv-loop μ-loop → tie.At-loop Inv-loop μ-loop
+  loop·mul-settle-2 c = loop·slice-read-settle c
+
+  abbrev pub loop·slice-read-methane-litres-2 : tie.After-slice-known5 Inv-loop μ-loop → tie.At-loop Inv-loop μ-loop
+  loop·slice-read-methane-litres-2 c = loop·slice-read-methane-litres (c .before)
+
+  abbrev pub loop·slice-read-settle-2 : tie.After-slice-known7 Inv-loop μ-loop → tie.At-loop Inv-loop μ-loop
+  loop·slice-read-settle-2 c = loop·slice-read-settle (c .before)
+
+  abbrev pub loop·settle-requires : tie.After-slice-known7 Inv-loop μ-loop → tie.At-loop Inv-loop μ-loop
+  loop·settle-requires c = loop·slice-read-settle-2 c
 
   abbrev pub loop·methane-litres-requires : tie.After-struct-told Inv-loop μ-loop → tie.At-loop Inv-loop μ-loop
-  loop·methane-litres-requires c = loop·slice-read-c-held (c .before .before .before)
+  loop·methane-litres-requires c = loop·slice-read-methane-litres-2 (c .before)
 
   abbrev pub loop·got : tie.After-settle Inv-loop μ-loop → tie.At-loop Inv-loop μ-loop
-  loop·got c = loop·settle-requires (c .before)
+  loop·got c = loop·slice-read-settle-2 (c .before)
 
   abbrev pub loop·slice-write-outcome-2 : tie.After-settle Inv-loop μ-loop → tie.At-loop Inv-loop μ-loop
   loop·slice-write-outcome-2 c = loop·got c
@@ -134,53 +146,65 @@ module _ {Inv-loop : tie.InvT-loop} {μ-loop : tie.MeasureT-loop} where
   abbrev pub loop·loop-again-2 : tie.After-struct-known Inv-loop μ-loop → tie.At-loop Inv-loop μ-loop
   loop·loop-again-2 c = loop·add-methane-2 c
 
-  abbrev pub loop-test·shared-slice-read-f-held : tie.After-shared-slice-known5 Inv-loop μ-loop → tie.In-loop Inv-loop μ-loop
-  loop-test·shared-slice-read-f-held c = c .before
+  abbrev pub loop-test·shared-slice-read-t21 : tie.After-shared-slice-known5 Inv-loop μ-loop → tie.In-loop Inv-loop μ-loop
+  loop-test·shared-slice-read-t21 c = c .before
 
-  abbrev pub loop-test·mul-t24 : tie.After-shared-slice-known5 Inv-loop μ-loop → tie.In-loop Inv-loop μ-loop
-  loop-test·mul-t24 c = loop-test·shared-slice-read-f-held c
+  abbrev pub loop-test·mul-t22 : tie.After-shared-slice-known5 Inv-loop μ-loop → tie.In-loop Inv-loop μ-loop
+  loop-test·mul-t22 c = loop-test·shared-slice-read-t21 c
 
-  abbrev pub loop-test·shared-slice-read-t26 : tie.After-shared-slice-known6 Inv-loop μ-loop → tie.In-loop Inv-loop μ-loop
-  loop-test·shared-slice-read-t26 c = loop-test·shared-slice-read-f-held (c .before)
+  abbrev pub loop-test·shared-slice-read-t24 : tie.After-shared-slice-known6 Inv-loop μ-loop → tie.In-loop Inv-loop μ-loop
+  loop-test·shared-slice-read-t24 c = loop-test·shared-slice-read-t21 (c .before)
 
-  abbrev pub loop-test·mul-t27 : tie.After-shared-slice-known6 Inv-loop μ-loop → tie.In-loop Inv-loop μ-loop
-  loop-test·mul-t27 c = loop-test·shared-slice-read-t26 c
+  abbrev pub loop-test·mul-t25 : tie.After-shared-slice-known6 Inv-loop μ-loop → tie.In-loop Inv-loop μ-loop
+  loop-test·mul-t25 c = loop-test·shared-slice-read-t24 c
 
-  abbrev pub loop-test·shared-slice-copy-out-t29 : tie.After-shared-slice-known6 Inv-loop μ-loop → tie.In-loop Inv-loop μ-loop
-  loop-test·shared-slice-copy-out-t29 c = loop-test·shared-slice-read-t26 c
+  abbrev pub loop-test·shared-slice-copy-out-t27 : tie.After-shared-slice-known6 Inv-loop μ-loop → tie.In-loop Inv-loop μ-loop
+  loop-test·shared-slice-copy-out-t27 c = loop-test·shared-slice-read-t24 c
 
-  abbrev pub loop-test·mul-t30 : tie.After-t29 Inv-loop μ-loop → tie.In-loop Inv-loop μ-loop
-  loop-test·mul-t30 c = loop-test·shared-slice-read-t26 (c .before)
+  abbrev pub loop-test·mul-t28 : tie.After-t27 Inv-loop μ-loop → tie.In-loop Inv-loop μ-loop
+  loop-test·mul-t28 c = loop-test·shared-slice-read-t24 (c .before)
 
-  abbrev pub loop-test·shared-slice-read-t32 : tie.After-shared-slice-known7 Inv-loop μ-loop → tie.In-loop Inv-loop μ-loop
-  loop-test·shared-slice-read-t32 c = loop-test·mul-t30 (c .before)
+  abbrev pub loop-test·shared-slice-read-t30 : tie.After-shared-slice-known7 Inv-loop μ-loop → tie.In-loop Inv-loop μ-loop
+  loop-test·shared-slice-read-t30 c = loop-test·mul-t28 (c .before)
 
-  abbrev pub loop-test·shared-slice-read-t34 : tie.After-shared-slice-known8 Inv-loop μ-loop → tie.In-loop Inv-loop μ-loop
-  loop-test·shared-slice-read-t34 c = loop-test·shared-slice-read-t32 (c .before)
-
-  abbrev pub loop-test·mul-f-held-2 : tie.After-shared-slice-known8 Inv-loop μ-loop → tie.In-loop Inv-loop μ-loop
-  loop-test·mul-f-held-2 c = loop-test·shared-slice-read-t34 c
-
-  abbrev pub loop-test·slice-read-f-held : tie.After-slice-known4 Inv-loop μ-loop → tie.In-loop Inv-loop μ-loop
-  loop-test·slice-read-f-held c = loop-test·shared-slice-read-t34 (c .before)
-
-  abbrev pub loop-test·mul-c-held : tie.After-slice-known4 Inv-loop μ-loop → tie.In-loop Inv-loop μ-loop
-  loop-test·mul-c-held c = loop-test·slice-read-f-held c
-
-  abbrev pub loop-test·slice-read-c-held : tie.After-slice-known5 Inv-loop μ-loop → tie.In-loop Inv-loop μ-loop
-  loop-test·slice-read-c-held c = loop-test·slice-read-f-held (c .before)
+  abbrev pub loop-test·shared-slice-read-t32 : tie.After-shared-slice-known8 Inv-loop μ-loop → tie.In-loop Inv-loop μ-loop
+  loop-test·shared-slice-read-t32 c = loop-test·shared-slice-read-t30 (c .before)
 
   abbrev pub loop-test·turn : tie.After-all-measured Inv-loop μ-loop → tie.In-loop Inv-loop μ-loop
-  loop-test·turn c = loop-test·slice-read-c-held (c .before)
+  loop-test·turn c = loop-test·shared-slice-read-t32 (c .before)
 
-  abbrev pub loop-test·settle-requires : tie.Else1 Inv-loop μ-loop → tie.In-loop Inv-loop μ-loop
-  loop-test·settle-requires c = loop-test·turn (c .before)
+  abbrev pub loop-test·mul-methane-litres : tie.Then1 Inv-loop μ-loop → tie.In-loop Inv-loop μ-loop
+  loop-test·mul-methane-litres c = loop-test·turn (c .before)
+
+  abbrev pub loop-test·mul-settle : tie.Else1 Inv-loop μ-loop → tie.In-loop Inv-loop μ-loop
+  loop-test·mul-settle c = loop-test·turn (c .before)
+
+  abbrev pub loop-test·slice-read-methane-litres : tie.After-slice-known4 Inv-loop μ-loop → tie.In-loop Inv-loop μ-loop
+  loop-test·slice-read-methane-litres c = loop-test·mul-methane-litres (c .before)
+
+  abbrev pub loop-test·mul-methane-litres-2 : tie.After-slice-known4 Inv-loop μ-loop → tie.In-loop Inv-loop μ-loop
+  loop-test·mul-methane-litres-2 c = loop-test·slice-read-methane-litres c
+
+  abbrev pub loop-test·slice-read-settle : tie.After-slice-known6 Inv-loop μ-loop → tie.In-loop Inv-loop μ-loop
+  loop-test·slice-read-settle c = loop-test·mul-settle (c .before)
+
+  abbrev pub loop-test·mul-settle-2 : tie.After-slice-known6 Inv-loop μ-loop → tie.In-loop Inv-loop μ-loop
+  loop-test·mul-settle-2 c = loop-test·slice-read-settle c
+
+  abbrev pub loop-test·slice-read-methane-litres-2 : tie.After-slice-known5 Inv-loop μ-loop → tie.In-loop Inv-loop μ-loop
+  loop-test·slice-read-methane-litres-2 c = loop-test·slice-read-methane-litres (c .before)
+
+  abbrev pub loop-test·slice-read-settle-2 : tie.After-slice-known7 Inv-loop μ-loop → tie.In-loop Inv-loop μ-loop
+  loop-test·slice-read-settle-2 c = loop-test·slice-read-settle (c .before)
+
+  abbrev pub loop-test·settle-requires : tie.After-slice-known7 Inv-loop μ-loop → tie.In-loop Inv-loop μ-loop
+  loop-test·settle-requires c = loop-test·slice-read-settle-2 c
 
   abbrev pub loop-test·methane-litres-requires : tie.After-struct-told Inv-loop μ-loop → tie.In-loop Inv-loop μ-loop
-  loop-test·methane-litres-requires c = loop-test·turn (c .before .before)
+  loop-test·methane-litres-requires c = loop-test·slice-read-methane-litres-2 (c .before)
 
   abbrev pub loop-test·got : tie.After-settle Inv-loop μ-loop → tie.In-loop Inv-loop μ-loop
-  loop-test·got c = loop-test·settle-requires (c .before)
+  loop-test·got c = loop-test·slice-read-settle-2 (c .before)
 
   abbrev pub loop-test·slice-write-outcome-2 : tie.After-settle Inv-loop μ-loop → tie.In-loop Inv-loop μ-loop
   loop-test·slice-write-outcome-2 c = loop-test·got c
@@ -242,29 +266,29 @@ module _ {Inv-loop : tie.InvT-loop} {μ-loop : tie.MeasureT-loop} where
   abbrev pub loop-test·loop-again-2 : tie.After-struct-known Inv-loop μ-loop → tie.In-loop Inv-loop μ-loop
   loop-test·loop-again-2 c = loop-test·add-methane-2 c
 
-  abbrev pub t29·settle-requires : tie.Else1 Inv-loop μ-loop → tie.After-t29 Inv-loop μ-loop
-  t29·settle-requires c = c .before .before .before .before .before .before
+  abbrev pub t27·settle-requires : tie.After-slice-known7 Inv-loop μ-loop → tie.After-t27 Inv-loop μ-loop
+  t27·settle-requires c = c .before .before .before .before .before .before
 
-  abbrev pub t29·methane-litres-requires : tie.After-struct-told Inv-loop μ-loop → tie.After-t29 Inv-loop μ-loop
-  t29·methane-litres-requires c = c .before .before .before .before .before .before .before
+  abbrev pub t27·methane-litres-requires : tie.After-struct-told Inv-loop μ-loop → tie.After-t27 Inv-loop μ-loop
+  t27·methane-litres-requires c = c .before .before .before .before .before .before .before
 
-  abbrev pub t29·got : tie.After-settle Inv-loop μ-loop → tie.After-t29 Inv-loop μ-loop
-  t29·got c = t29·settle-requires (c .before)
+  abbrev pub t27·got : tie.After-settle Inv-loop μ-loop → tie.After-t27 Inv-loop μ-loop
+  t27·got c = t27·settle-requires (c .before)
 
-  abbrev pub t29·whole : tie.After-methane-litres Inv-loop μ-loop → tie.After-t29 Inv-loop μ-loop
-  t29·whole c = t29·methane-litres-requires (c .before)
+  abbrev pub t27·whole : tie.After-methane-litres Inv-loop μ-loop → tie.After-t27 Inv-loop μ-loop
+  t27·whole c = t27·methane-litres-requires (c .before)
 
   abbrev pub all-measured·methane-litres-requires : tie.After-struct-told Inv-loop μ-loop → tie.After-all-measured Inv-loop μ-loop
-  all-measured·methane-litres-requires c = c .before .before
+  all-measured·methane-litres-requires c = c .before .before .before .before
 
   abbrev pub all-measured·got : tie.After-settle Inv-loop μ-loop → tie.After-all-measured Inv-loop μ-loop
-  all-measured·got c = c .before .before
+  all-measured·got c = c .before .before .before .before
 
   abbrev pub all-measured·whole : tie.After-methane-litres Inv-loop μ-loop → tie.After-all-measured Inv-loop μ-loop
   all-measured·whole c = all-measured·methane-litres-requires (c .before)
 
   abbrev pub if1·methane-litres-requires : tie.After-struct-told Inv-loop μ-loop → tie.Then1 Inv-loop μ-loop
-  if1·methane-litres-requires c = c .before
+  if1·methane-litres-requires c = c .before .before .before
 
   abbrev pub if1·whole : tie.After-methane-litres Inv-loop μ-loop → tie.Then1 Inv-loop μ-loop
   if1·whole c = if1·methane-litres-requires (c .before)
@@ -281,12 +305,13 @@ module _ {Inv-loop : tie.InvT-loop} {μ-loop : tie.MeasureT-loop} where
 -- What the code binds and asks, in order, as it was when this was generated:
 --   After-shared-slice-known/shared-slice-known After-shared-slice-known2/shared-slice-known2 After-shared-slice-known3/shared-slice-known3
 --   After-shared-slice-known4/shared-slice-known4 After-slice-known/slice-known After-slice-known2/slice-known2 After-slice-known3/slice-known3 ?loop-holds
---   At-loop/loop In-loop/loop-test After-loop/loop-test ?mul-f-held After-shared-slice-known5/shared-slice-known5 ?shared-slice-read-f-held ?mul-t24
---   After-shared-slice-known6/shared-slice-known6 ?shared-slice-read-t26 ?mul-t27 ?shared-slice-copy-out-t29 After-t29/t29 ?mul-t30
---   After-shared-slice-known7/shared-slice-known7 ?shared-slice-read-t32 After-shared-slice-known8/shared-slice-known8 ?shared-slice-read-t34 ?mul-f-held-2
---   After-slice-known4/slice-known4 ?slice-read-f-held ?mul-c-held After-slice-known5/slice-known5 ?slice-read-c-held ?all-measured-requires
---   After-all-measured/all-measured Then1/if1 After-struct-told/struct-told ?methane-litres-requires After-methane-litres/methane-litres ?slice-write-outcome
---   ?array-read-outcomes ?add-outcomes ?array-write-outcomes ?add-methane ?add-i ?loop-less ?loop-again Else1/if1 ?settle-requires After-settle/settle
---   ?slice-write-outcome-2 ?mul-flow-used ?slice-write-flow-used ?mul-content-used ?slice-write-content-used ?cast-k ?mul-outcomes ?array-read-outcomes-2
---   ?add-outcomes-2 ?array-write-outcomes-2 After-struct-known/struct-known ?add-methane-2 ?add-i-2 ?loop-less-2 ?loop-again-2 ?same-length ?same-length-2
---   ?same-length-3 ?returns
+--   At-loop/loop In-loop/loop-test After-loop/loop-test ?mul-t19 After-shared-slice-known5/shared-slice-known5 ?shared-slice-read-t21 ?mul-t22
+--   After-shared-slice-known6/shared-slice-known6 ?shared-slice-read-t24 ?mul-t25 ?shared-slice-copy-out-t27 After-t27/t27 ?mul-t28
+--   After-shared-slice-known7/shared-slice-known7 ?shared-slice-read-t30 After-shared-slice-known8/shared-slice-known8 ?shared-slice-read-t32
+--   ?all-measured-requires After-all-measured/all-measured Then1/if1 ?mul-methane-litres After-slice-known4/slice-known4 ?slice-read-methane-litres
+--   ?mul-methane-litres-2 After-slice-known5/slice-known5 ?slice-read-methane-litres-2 After-struct-told/struct-told ?methane-litres-requires
+--   After-methane-litres/methane-litres ?slice-write-outcome ?array-read-outcomes ?add-outcomes ?array-write-outcomes ?add-methane ?add-i ?loop-less
+--   ?loop-again Else1/if1 ?mul-settle After-slice-known6/slice-known6 ?slice-read-settle ?mul-settle-2 After-slice-known7/slice-known7 ?slice-read-settle-2
+--   ?settle-requires After-settle/settle ?slice-write-outcome-2 ?mul-flow-used ?slice-write-flow-used ?mul-content-used ?slice-write-content-used ?cast-k
+--   ?mul-outcomes ?array-read-outcomes-2 ?add-outcomes-2 ?array-write-outcomes-2 After-struct-known/struct-known ?add-methane-2 ?add-i-2 ?loop-less-2
+--   ?loop-again-2 ?same-length ?same-length-2 ?same-length-3 ?returns
