@@ -168,14 +168,14 @@ value-most reading corrected a e w b rule h s r g =
 
 -- ---- a gap whose windows are whole, as the code has it once it has looked at them
 
-pub record Ready (reading used : List ℕ) (a e w : ℕ) (rule : Rule) : Type 0 where
+pub record Prepared (reading used : List ℕ) (a e w : ℕ) (rule : Rule) : Type 0 where
   pub order : a < e
   pub inside : e ≤ length reading
   pub goes : Goes reading used flowMost
   pub fits : Fits w rule
   pub is-whole : whole reading a e w ≡ true
 
-module _ {reading used : List ℕ} {a e w : ℕ} {rule : Rule} (d : Ready reading used a e w rule) where
+module _ {reading used : List ℕ} {a e w : ℕ} {rule : Rule} (d : Prepared reading used a e w rule) where
   pub ready-before : w ≤ a
   ready-before = reach-before reading a e w (d .is-whole)
 

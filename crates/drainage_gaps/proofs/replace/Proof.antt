@@ -3,7 +3,7 @@ use mathlib.Core.Path.{sym, _∙_}
 use native.Mathlib.Omega.{arith}
 use borrow.Author.Needs.{needs}
 use borrow.Author.Tests.{not-true, not-false}
-use Rattle.drainage_gaps.proofs.Laws.{class-fits, replaced-not, Ready, ready-before, ready-after, ready-windows, ready-mean, ready-value}
+use Rattle.drainage_gaps.proofs.Laws.{class-fits, replaced-not, Prepared, ready-before, ready-after, ready-windows, ready-mean, ready-value}
 use Rattle.drainage_gaps.proofs.Laws.{taken-mean, taken-limit}
 use Rattle.drainage_gaps.proofs.replace.Statement.{statement}
 use Rattle.drainage_gaps.proofs.replace.Tie as tie
@@ -12,7 +12,7 @@ use PlaceNames.*
 
 -- what is known once the windows are found whole
 ready : (c : tie.Else1)
-    → Ready (start·ready c .args .reading .now) (start·ready c .args .used .now) (start·ready c .args .a) (start·ready c .args .e) (start·ready c .args .w)
+    → Prepared (start·ready c .args .reading .now) (start·ready c .args .used .now) (start·ready c .args .a) (start·ready c .args .e) (start·ready c .args .w)
     (start·ready c .args .rule)
 ready c =
     let p = start·ready c .pre in

@@ -26,6 +26,17 @@ abbrev put-natural-below : ℕ → In 1 put-natural-kinds.ps
 put-natural-below t =
     and 1 put-natural-kinds.ps (falls 1 put-natural-kinds.ps _<_ μ-put-natural t) put-natural.Pre
 
+-- the places that the answers look back to: the start, seen from the end of the arm of one digit and from the call, and the call, seen from
+-- the end of the other arm
+abbrev start·digit : (t : ℕ) → put-natural-lts.After-slice-known2 (put-reads.Asked, put-reads.Learnt, put-natural-below t, put-natural.Post) (put-natural-at t) put-natural.Post → put-natural-lts.Start (put-reads.Asked, put-reads.Learnt, put-natural-below t, put-natural.Post) (put-natural-at t) put-natural.Post
+start·digit t c = c .before .before .before .before .before .before
+
+abbrev start·call : (t : ℕ) → put-natural-lts.After-put-natural (put-reads.Asked, put-reads.Learnt, put-natural-below t, put-natural.Post) (put-natural-at t) put-natural.Post → put-natural-lts.Start (put-reads.Asked, put-reads.Learnt, put-natural-below t, put-natural.Post) (put-natural-at t) put-natural.Post
+start·call t c = c .before .before .before .before
+
+abbrev call·digits : (t : ℕ) → put-natural-lts.After-slice-known4 (put-reads.Asked, put-reads.Learnt, put-natural-below t, put-natural.Post) (put-natural-at t) put-natural.Post → put-natural-lts.After-put-natural (put-reads.Asked, put-reads.Learnt, put-natural-below t, put-natural.Post) (put-natural-at t) put-natural.Post
+call·digits t c = c .before .before .before .before .before .before
+
 put-natural-cast-put : (t : ℕ) → put-natural-lts.Need-cast-put (
   put-reads.Asked,
   put-reads.Learnt,
@@ -56,7 +67,7 @@ put-natural-add-result : (t : ℕ) → put-natural-lts.Need-add-result (
   put-natural-below t,
   put-natural.Post,
 ) (put-natural-at t) put-natural.Post
-put-natural-add-result t c = omega (arith, digits (c .before .before .before .before .before .before .args .v) .some)
+put-natural-add-result t c = omega (arith, digits (start·digit t c .args .v) .some)
 
 put-natural-put-natural-requires : (t : ℕ) → put-natural-lts.Need-put-natural-requires (
   put-reads.Asked,
@@ -100,8 +111,8 @@ put-natural-add-result-2 : (t : ℕ) → put-natural-lts.Need-add-result-2 (
 put-natural-add-result-2 t c =
     omega (
       arith,
-      digits-room (c .before .before .before .before .before .before .before .before .before .before .args .v) (omega arith),
-      c .before .before .before .before .before .before .put-natural .ensures .stops,
+      digits-room (start·call t (call·digits t c) .args .v) (omega arith),
+      call·digits t c .put-natural .ensures .stops,
     )
 
 put-natural-same-length : (t : ℕ) → put-natural-lts.Need-same-length (
@@ -119,7 +130,7 @@ put-natural-returns : (t : ℕ) → put-natural-lts.Need-returns (
   put-natural.Post,
 ) (put-natural-at t) put-natural.Post
 put-natural-returns t c =
-    let s = c .before .before .before .before .before .before in
+    let s = start·digit t c in
     put-digit (now (s .args .buf)) (c .before .before .put .last .0) (s .args .at) (s .args .v) (omega arith) (c .before .before .put .ensures)
 
 put-natural-same-length-2 : (t : ℕ) → put-natural-lts.Need-same-length-2 (
@@ -128,7 +139,7 @@ put-natural-same-length-2 : (t : ℕ) → put-natural-lts.Need-same-length-2 (
   put-natural-below t,
   put-natural.Post,
 ) (put-natural-at t) put-natural.Post
-put-natural-same-length-2 t c = c .before .before .put2 .kept .0 ∙ c .before .before .before .before .before .before .put-natural .kept .0
+put-natural-same-length-2 t c = c .before .before .put2 .kept .0 ∙ call·digits t c .put-natural .kept .0
 
 put-natural-returns-2 : (t : ℕ) → put-natural-lts.Need-returns-2 (
   put-reads.Asked,
@@ -137,8 +148,8 @@ put-natural-returns-2 : (t : ℕ) → put-natural-lts.Need-returns-2 (
   put-natural.Post,
 ) (put-natural-at t) put-natural.Post
 put-natural-returns-2 t c =
-    let s = c .before .before .before .before .before .before .before .before .before .before in
-    let r = c .before .before .before .before .before .before .put-natural in
+    let s = start·call t (call·digits t c) in
+    let r = call·digits t c .put-natural in
     put-digits (now (s .args .buf)) (r .last .0) (c .before .before .put2 .last .0) (s .args .at) (r .result) (s .args .v) (omega arith) (r .ensures)
     (c .before .before .put2 .ensures)
 
