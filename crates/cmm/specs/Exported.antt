@@ -26,6 +26,10 @@ use Rattle.drainage_record.specs.declared.ReadAnswer as RecordType
 use Rattle.drainage_record.specs.declared.ReadAnswer.the-variants as RecordAnswer
 use Rattle.cmm.specs.Figures.{amountsOf, balancesOf}
 
+-- The number that header, library and command share: that of the latest note in docs/landings.
+abbrev pub version : ℕ
+version = 2
+
 -- the host's two arrays of figures
 pub record Arrays : Type 0 where
   pub amounts : List ℕ
