@@ -43,6 +43,10 @@
 #include <stddef.h>
 #include <stdint.h>
 
+/* The version of this header: the number of the latest note in docs/landings. cmm_version() gives the library's own, and a host that
+ * finds the two different must not call it: arrays may have other lengths. */
+#define CMM_VERSION 2
+
 #ifdef __cplusplus
 extern "C" {
 #endif
@@ -54,6 +58,24 @@ enum {
     CMM_FUELS_MOST = 64,
     CMM_CHECKS_MOST = 32, /* of one instrument */
     CMM_TEXT_MOST = 465   /* bytes of a sheet, or of a refusal's three lines */
+};
+
+/* The ranges of what a record says (a reading that is missing has its mark instead, below). Check positions go to the number of
+ * intervals, kinds from 1. */
+enum {
+    CMM_MINE_MOST = 1,
+    CMM_KIND_MOST = 6,
+    CMM_FLOW_MOST = 30000,
+    CMM_CONTENT_MOST = 10000,
+    CMM_TEMP_LEAST = -4000,
+    CMM_TEMP_MOST = 10000,
+    CMM_PRESS_LEAST = 50000,
+    CMM_PRESS_MOST = 300000,
+    CMM_STATUS_MOST = 3,
+    CMM_DRIFT_LEAST = -9000,
+    CMM_DRIFT_MOST = 20000,
+    CMM_QUANTITY_MOST = 1000000000,
+    CMM_FACTOR_MOST = 4000000
 };
 
 /* No record file for rows of n entries is longer than this, in bytes. A longer text is refused whatever follows, and so are its
@@ -95,6 +117,9 @@ enum {
     CMM_ACCOUNT,                                /* 13 */
     CMM_ACCOUNTS = CMM_DEVICES_MOST * CMM_ACCOUNT /* 208 */
 };
+
+/* The library's version. */
+uint32_t cmm_version(void);
 
 /* Quantifies the records of a reporting period. With N intervals and D devices:
  *
