@@ -8,6 +8,7 @@
 #include <sys/stat.h>
 #include <unistd.h>
 
+#include "memory.h"
 #include "say.h"
 
 /* What is asked for at first where a size is not known: a pipe's, a terminal's. */
@@ -34,7 +35,7 @@ static int changed(const struct stat *a, const struct stat *b)
 /* Room for `size` bytes, those read so far among them. */
 static int grow(struct text *t, size_t size)
 {
-    uint8_t *bytes = realloc(t->bytes, size);
+    uint8_t *bytes = memory(t->bytes, size);
 
     if (!bytes)
         return trouble("memory", strerror(ENOMEM));

@@ -6,6 +6,7 @@
 
 #include "../include/cmm.h"
 #include "lines.h"
+#include "memory.h"
 #include "say.h"
 
 /* Intervals times devices, or 0. The library is asked first, with rows of no entry: 13 says that the first two lines are right. */
@@ -33,7 +34,7 @@ int rows_lend(const struct text *t, struct rows *r)
 {
     size_t n = entries_of(t), room = n > 0 ? n : 1;
     /* One block, the widest entries first; pages that nothing is written to are never there. */
-    uint8_t *block = malloc(room * (4 + 5 * 2 + 2));
+    uint8_t *block = memory(NULL, room * (4 + 5 * 2 + 2));
 
     if (!block)
         return trouble("memory", strerror(ENOMEM));
