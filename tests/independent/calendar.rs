@@ -10,7 +10,7 @@ pub struct Time {
     pub minute: u32,
 }
 
-pub fn is_leap(year: u32) -> bool {
+fn is_leap(year: u32) -> bool {
     year % 4 == 0 && (year % 100 != 0 || year % 400 == 0)
 }
 

@@ -1,7 +1,7 @@
 //! The command `cmm sheet` and the program `sheet`, both asked about each file: the program's answer, and the command's
 //! answer, exit status and words. Where the program's rows have room for the record, the two answer alike.
 
-use crate::calendar::{days_of_month, is_leap, Time};
+use crate::calendar::{days_of_month, Time};
 use crate::compare::{first_difference, keep, kinds_wanted, record_kinds, Judged};
 use crate::generate::{self, Generated};
 use crate::possible_text::wrong_line;
@@ -108,25 +108,23 @@ fn drawn_start(rng: &Rng) -> Option<Time> {
     if rng.chance(2) {
         return None;
     }
-    let year = match rng.below(8) {
-        0 => rng.size(1, 9_999) as u32,
-        1 => rng.pick(&[1, 4, 99, 100, 400, 1899, 1900, 1999, 2000, 2096, 2100, 2400, 9_998, 9_999]),
-        _ => rng.size(2010, 2030) as u32,
+    let year = rng.size(2010, 2030) as u32;
+    let (year, month, day) = match rng.below(8) {
+        0..=1 => (rng.pick(&[4, 100, 400, 1900, 2000, 2100, 2400, 9_999]), 2, 28),
+        2 => (year, 2, 28),
+        3 => (year, 2, days_of_month(year, 2)),
+        4 => (year, 12, 31),
+        5 => any_day(rng, rng.pick(&[1, 9_999, rng.size(1, 9_999) as u32])),
+        _ => any_day(rng, year),
     };
-    let last_of_february = if is_leap(year) { 29 } else { 28 };
-    let (month, day) = match rng.below(6) {
-        0 => (2, 28),
-        1 => (2, last_of_february),
-        2 => (12, 31),
-        3 => (1, 1),
-        _ => {
-            let month = rng.size(1, 12) as u32;
-            (month, rng.size(1, days_of_month(year, month) as usize) as u32)
-        }
-    };
-    let (hour, minute) =
-        rng.pick(&[(0, 0), (23, 59), (23, 45), (rng.size(0, 23) as u32, 15), (12, rng.size(0, 59) as u32)]);
+    let any = (rng.size(0, 23) as u32, rng.size(0, 59) as u32);
+    let (hour, minute) = rng.pick(&[(23, 59), (23, 45), (23, 46), (0, 0), any]);
     Some(Time { year, month, day, hour, minute })
+}
+
+fn any_day(rng: &Rng, year: u32) -> (u32, u32, u32) {
+    let month = rng.size(1, 12) as u32;
+    (year, month, rng.size(1, days_of_month(year, month) as usize) as u32)
 }
 
 /// A year of more than four digits has no form in docs/COMMAND.md.

@@ -27,9 +27,7 @@ pub fn ask(words: &[String], input: Option<Arc<Vec<u8>>>) -> Result<Answered, St
         // It may answer before it has read everything, and close its input: that is no failure.
         thread::spawn(move || drop(stdin.write_all(&input)));
     }
-    let (output, said) = (all_of(child.stdout.take().unwrap()), all_of(child.stderr.take().unwrap()));
-    let answered = (output.recv_timeout(LONGEST_WAIT), said.recv_timeout(LONGEST_WAIT), status(&mut child));
-    let (Ok(output), Ok(said), Some(status)) = answered else {
+    let Some((output, said, status)) = answer(&mut child) else {
         let _ = child.kill();
         let _ = child.wait();
         return Err(format!("no answer in {} seconds", LONGEST_WAIT.as_secs()));
@@ -38,6 +36,11 @@ pub fn ask(words: &[String], input: Option<Arc<Vec<u8>>>) -> Result<Answered, St
         Some(status) => Ok(Answered { output, said, status }),
         None => Err(format!("ended with {status}")),
     }
+}
+
+fn answer(child: &mut Child) -> Option<(Vec<u8>, Vec<u8>, ExitStatus)> {
+    let (output, said) = (all_of(child.stdout.take()?), all_of(child.stderr.take()?));
+    Some((output.recv_timeout(LONGEST_WAIT).ok()?, said.recv_timeout(LONGEST_WAIT).ok()?, status(child)?))
 }
 
 /// Its status, which it has soon after its output has ended.
