@@ -145,7 +145,7 @@ fn difference(asked: &Asked, answerer: &dyn Answerer) -> Option<String> {
 }
 
 /// The first line that differs, of the expected text and of the answer.
-fn first_difference(expected: &str, answer: &str) -> String {
+pub fn first_difference(expected: &str, answer: &str) -> String {
     let (mut wanted, mut given) = (expected.split('\n'), answer.split('\n'));
     loop {
         let pair = (wanted.next(), given.next());

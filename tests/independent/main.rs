@@ -2,10 +2,12 @@
 //! record files. See README.md beside this file.
 
 mod answerer;
+mod calendar;
 mod call;
 mod calls;
 mod compare;
 mod compare_calls;
+mod compare_command;
 mod damaged_files;
 mod damaged_sheets;
 mod decimal;
@@ -22,6 +24,7 @@ mod natural;
 mod outcomes;
 mod plain_files;
 mod possible_text;
+mod process;
 mod protocol;
 mod quantify;
 mod record;
@@ -34,13 +37,17 @@ mod rng;
 mod selfcheck;
 mod selfcheck_calls;
 mod selfcheck_texts;
+mod selfcheck_words;
 mod sheet;
 mod sound_calls;
 mod tonnes;
+mod word_files;
+mod words;
 mod wrong_calls;
 
 use answerer::{Answerer, Program};
 use compare::Asked;
+use compare_command::{Both, Directory};
 use library::Library;
 use library_texts::{Records, Sheets};
 use std::io::{Read, Write};
@@ -54,6 +61,7 @@ const USAGE: &str = "usage:
   independent compare SEED COUNT PROGRAM [WORDS]         the program on generated record files
   independent compare-row ROW SEED COUNT PROGRAM [WORDS] the same for a reader that is lent longer rows
   independent compare-sheets SEED COUNT PROGRAM [WORDS]  a program that answers as read-sheet does
+  independent compare-command ROW SEED COUNT PROGRAM [WORDS] -- COMMAND [WORDS]   the program and `COMMAND sheet`
   independent compare-calls SEED COUNT SERVER            the library's cmm_quantify on generated calls
   independent compare-library SEED COUNT ROW SERVER      its cmm_report with rows of this length, result rows too
   independent compare-library-sheets SEED COUNT SERVER   its reader and writer of sheets
@@ -89,6 +97,7 @@ fn run(words: &[&str]) -> Option<bool> {
         ["compare", seed, count, program @ ..] => compare_records(default_row, seed, count, program),
         ["compare-row", row, seed, count, program @ ..] => compare_records(row.parse().ok()?, seed, count, program),
         ["compare-sheets", seed, count, program @ ..] => compare_sheets(seed, count, program),
+        ["compare-command", row, seed, count, words @ ..] => compare_command(row, seed, count, words),
         ["compare-calls", seed, count, server @ ..] => compare_calls(seed, count, server),
         ["compare-library", seed, count, row, server @ ..] => compare_library(seed, count, row, server),
         ["compare-library-sheets", seed, count, server @ ..] => compare_library_sheets(seed, count, server),
@@ -152,6 +161,16 @@ fn compare_sheets(seed: &str, count: &str, words: &[&str]) -> Option<bool> {
 
 fn sheet_kinds_wanted() -> Vec<String> {
     vec!["sheet".to_string(), "refusal 10".to_string()]
+}
+
+fn compare_command(row: &str, seed: &str, count: &str, words: &[&str]) -> Option<bool> {
+    let (row, seed, count) = (row.parse().ok()?, seed.parse().ok()?, count.parse().ok()?);
+    let between = words.iter().position(|word| *word == "--")?;
+    let (program, command) = (program(&words[..between])?.words, program(&words[between + 1..])?.words);
+    let directory = Directory::new().expect("no directory for the files");
+    let both = Both { program, command, directory };
+    let summary = compare::compare(count, &|number| compare_command::judge(seed, number, row, &both));
+    Some(summary.conclude("files", count, &compare_command::wanted()))
 }
 
 fn compare_calls(seed: &str, count: &str, server: &[&str]) -> Option<bool> {

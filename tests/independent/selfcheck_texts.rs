@@ -4,7 +4,7 @@ use crate::report;
 use crate::selfcheck::Checks;
 use crate::sheet::read_sheet;
 
-const EXAMPLE: &str = "intervals=1 devices=1 mine=0 fuels=1 quantity=1000 factor=700000 kind=2 flow_checks=0 \
+pub const EXAMPLE: &str = "intervals=1 devices=1 mine=0 fuels=1 quantity=1000 factor=700000 kind=2 flow_checks=0 \
     ch4_checks=0 flow=30000 ch4=10000 temp=2000 press=101325 status=1";
 
 const EXAMPLE_SHEET: &str = "intervals=1
@@ -35,7 +35,7 @@ pub fn run(checks: &mut Checks) {
 }
 
 /// One word to a line.
-fn lines(words: &str) -> Vec<u8> {
+pub fn lines(words: &str) -> Vec<u8> {
     (words.replace(' ', "\n") + "\n").into_bytes()
 }
 
