@@ -69,8 +69,6 @@ static int read_open(int file, size_t most, struct text *t)
 
     if (fstat(file, &before) != 0)
         return trouble(t->name, strerror(errno));
-    if (S_ISDIR(before.st_mode))
-        return trouble(t->name, strerror(EISDIR));
     size = wanted(&before, most);
     if (grow(t, size) != YES || read_all(file, size, most, t) != YES)
         return TROUBLE;

@@ -102,20 +102,20 @@ static void say_time(const struct moment *start, unsigned long interval)
     if (!start)
         return;
     moment_write(start, interval, text);
-    fprintf(stderr, " (%s)", text);
+    fprintf(stderr, ", %s", text);
 }
 
 static void say_where(const struct walk *w, const struct moment *start)
 {
     switch (w->due) {
     case QUANTITY:
-    case FACTOR: fprintf(stderr, " of fuel line %lu", w->entry); break;
+    case FACTOR: fprintf(stderr, " (fuel line %lu", w->entry); break;
     case KIND:
     case FLOW_CHECKS:
-    case CH4_CHECKS: fprintf(stderr, " of device %lu", w->device); break;
+    case CH4_CHECKS: fprintf(stderr, " (device %lu", w->device); break;
     case AT:
     case DRIFT:
-        fprintf(stderr, " of device %lu, %s check %lu", w->device, w->content ? "CH4" : "flow", w->entry);
+        fprintf(stderr, " (device %lu, %s check %lu", w->device, w->content ? "CH4" : "flow", w->entry);
         if (w->due == DRIFT && w->position <= (long long)w->intervals)
             say_time(start, (unsigned long)w->position);
         break;
@@ -124,11 +124,12 @@ static void say_where(const struct walk *w, const struct moment *start)
     case TEMP:
     case PRESS:
     case STATUS:
-        fprintf(stderr, " of device %lu, interval %lu", w->device, w->entry);
+        fprintf(stderr, " (device %lu, interval %lu", w->device, w->entry);
         say_time(start, w->entry);
         break;
-    default: break;
+    default: return; /* the file's head, and its end */
     }
+    fputc(')', stderr);
 }
 
 static void say_range(const struct walk *w, long long least)

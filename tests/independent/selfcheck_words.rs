@@ -42,8 +42,8 @@ fn page_example(checks: &mut Checks) {
     checks.same("nothing is said of a sheet", said(text.as_bytes(), "month.record", None), String::new());
     let line = text.match_indices("flow=1\n").nth(823).unwrap().0;
     text.replace_range(line..line + 6, "flow=30001");
-    let wanted = "cmm: month.record:4127: a reading is out of range: flow=30001 of device 0, interval 823 \
-        (2026-01-09T13:45); 0 to 30000 is right, in 0.1 m3, or nothing where it is missing\n";
+    let wanted = "cmm: month.record:4127: a reading is out of range: flow=30001 (device 0, interval 823, \
+        2026-01-09T13:45); 0 to 30000 is right, in 0.1 m3, or nothing where it is missing\n";
     let start = Some(time(2026, 1, 1, 0, 0));
     checks.same("the page's example", said(text.as_bytes(), "month.record", start).as_str(), wanted);
 }
@@ -56,68 +56,68 @@ fn numbers(checks: &mut Checks) {
         (
             "kind=2",
             "kind=0",
-            "7: there is no such kind of device: kind=0 of device 0; 1 to 6 is right, for open flare, enclosed flare, \
+            "7: there is no such kind of device: kind=0 (device 0); 1 to 6 is right, for open flare, enclosed flare, \
              engine, boiler, turbine, pipeline injection",
         ),
         (
             "kind=2",
             "kind=6",
-            "7: pipeline injection is not for an underground mine: kind=6 of device 0; 1 to 5 is right where mine=0",
+            "7: pipeline injection is not for an underground mine: kind=6 (device 0); 1 to 5 is right where mine=0",
         ),
         (
             "flow_checks=0",
             "flow_checks=1 at=2 drift=20001",
-            "9: a check is wrong: at=2 of device 0, flow check 0; 0 to 1 is right",
+            "9: a check is wrong: at=2 (device 0, flow check 0); 0 to 1 is right",
         ),
         (
             "flow_checks=0",
             "flow_checks=2 at=0 drift=0 at=0 drift=0",
-            "11: a check is wrong: at=0 of device 0, flow check 1; 1 to 1 is right",
+            "11: a check is wrong: at=0 (device 0, flow check 1); 1 to 1 is right",
         ),
         (
             "ch4_checks=0",
             "ch4_checks=2 at=1 drift=0 at=2 drift=0",
-            "12: a check is wrong: at=2 of device 0, CH4 check 1; no position is left after the check before it",
+            "12: a check is wrong: at=2 (device 0, CH4 check 1); no position is left after the check before it",
         ),
         (
             "flow_checks=0 ch4_checks=0",
             "flow_checks=1 at=0 drift=0 ch4_checks=1 at=0 drift=-9001",
-            "13: a check is wrong: drift=-9001 of device 0, CH4 check 0; -9000 to 20000 is right, in 0.01 %",
+            "13: a check is wrong: drift=-9001 (device 0, CH4 check 0); -9000 to 20000 is right, in 0.01 %",
         ),
         (
             "ch4=10000 temp=2000",
             "ch4=10001 temp=10001",
-            "11: a reading is out of range: ch4=10001 of device 0, interval 0; 0 to 10000 is right, in 0.01 %, or \
+            "11: a reading is out of range: ch4=10001 (device 0, interval 0); 0 to 10000 is right, in 0.01 %, or \
              nothing where it is missing",
         ),
         (
             "temp=2000",
             "temp=-4001",
-            "12: a reading is out of range: temp=-4001 of device 0, interval 0; -4000 to 10000 is right, in 0.01 \
+            "12: a reading is out of range: temp=-4001 (device 0, interval 0); -4000 to 10000 is right, in 0.01 \
              degrees Celsius, or nothing where it is missing",
         ),
         (
             "press=101325",
             "press=49999",
-            "13: a reading is out of range: press=49999 of device 0, interval 0; 50000 to 300000 is right, in Pa, or \
+            "13: a reading is out of range: press=49999 (device 0, interval 0); 50000 to 300000 is right, in Pa, or \
              nothing where it is missing",
         ),
         (
             "status=1",
             "status=4",
-            "14: a reading is out of range: status=4 of device 0, interval 0; 0 to 3 is right, for stopped, running, \
+            "14: a reading is out of range: status=4 (device 0, interval 0); 0 to 3 is right, for stopped, running, \
              running and attested, no thermocouple record",
         ),
         (
             "quantity=1000",
             "quantity=1000000001",
-            "5: a fuel line is out of range: quantity=1000000001 of fuel line 0; 0 to 1000000000 is right, in \
+            "5: a fuel line is out of range: quantity=1000000001 (fuel line 0); 0 to 1000000000 is right, in \
              thousandths of a unit",
         ),
         (
             "fuels=1",
             "fuels=2 quantity=0 factor=4000001",
-            "6: a fuel line is out of range: factor=4000001 of fuel line 0; 0 to 4000000 is right, in g of CO2 a unit",
+            "6: a fuel line is out of range: factor=4000001 (fuel line 0); 0 to 4000000 is right, in g of CO2 a unit",
         ),
     ] {
         checks.same(to, said(&edited(from, to), "a b", None), format!("cmm: a b:{wanted}\n"));
@@ -140,19 +140,19 @@ fn wrong_lines(checks: &mut Checks) {
         (
             "factor=700000",
             "faktor=\u{e9}",
-            "6: the line is wrong: \"faktor=\\xc3\\xa9\" of fuel line 0; factor= and 0 to 4000000 is right, in g of \
+            "6: the line is wrong: \"faktor=\\xc3\\xa9\" (fuel line 0); factor= and 0 to 4000000 is right, in g of \
              CO2 a unit",
         ),
-        ("flow_checks=0", "", "8: the line is wrong: \"\" of device 0; flow_checks= and 0 to 32 is right"),
+        ("flow_checks=0", "", "8: the line is wrong: \"\" (device 0); flow_checks= and 0 to 32 is right"),
         (
             "ch4_checks=0",
             "ch4_checks=2 at=1 drift=0 at=x",
-            "12: the line is wrong: \"at=x\" of device 0, CH4 check 1; at= and 0 to 1 is right",
+            "12: the line is wrong: \"at=x\" (device 0, CH4 check 1); at= and 0 to 1 is right",
         ),
         (
             "flow=30000",
             "flow=65535",
-            "10: the line is wrong: \"flow=65535\" of device 0, interval 0; flow= and 0 to 30000 is right, in 0.1 m3, \
+            "10: the line is wrong: \"flow=65535\" (device 0, interval 0); flow= and 0 to 30000 is right, in 0.1 m3, \
              or nothing where it is missing",
         ),
     ] {
@@ -183,7 +183,7 @@ fn ends(checks: &mut Checks) {
     let whole = lines(EXAMPLE);
     let more = |bytes: &[u8]| [&whole[..], bytes].concat();
     let status =
-        "of device 0, interval 0; status= and 0 to 3 is right, for stopped, running, running and attested, no \
+        "(device 0, interval 0); status= and 0 to 3 is right, for stopped, running, running and attested, no \
         thermocouple record";
     for (text, wanted) in [
         (vec![], "1: the line is wrong: the text ends; intervals= and 1 to 35136 is right".to_string()),
@@ -202,16 +202,16 @@ fn ends(checks: &mut Checks) {
 
 /// What is followed by a time, and what is not.
 fn times(checks: &mut Checks) {
-    let of = |owner: &str| format!("of device 0, {owner};");
+    let of = |owner: &str| format!(" (device 0, {owner});");
     for (from, to, wanted) in [
-        ("flow_checks=0", "flow_checks=1 at=1 drift=20001", of("flow check 0 (2024-01-01T00:00)")),
-        ("flow_checks=0", "flow_checks=1 at=0 drift=x", of("flow check 0 (2023-12-31T23:45)")),
+        ("flow_checks=0", "flow_checks=1 at=1 drift=20001", of("flow check 0, 2024-01-01T00:00")),
+        ("flow_checks=0", "flow_checks=1 at=0 drift=x", of("flow check 0, 2023-12-31T23:45")),
         ("flow_checks=0", "flow_checks=1 at=2 drift=x", of("flow check 0")),
         ("flow_checks=0", "flow_checks=1 at=2 drift=1", of("flow check 0")),
-        ("status=1", "status=4", of("interval 0 (2023-12-31T23:45)")),
-        ("status=1", "status=x", of("interval 0 (2023-12-31T23:45)")),
-        ("kind=2", "kind=9", "of device 0;".to_string()),
-        ("factor=700000", "factor=5000000", "of fuel line 0;".to_string()),
+        ("status=1", "status=4", of("interval 0, 2023-12-31T23:45")),
+        ("status=1", "status=x", of("interval 0, 2023-12-31T23:45")),
+        ("kind=2", "kind=9", " (device 0);".to_string()),
+        ("factor=700000", "factor=5000000", " (fuel line 0);".to_string()),
     ] {
         let sentence = said(&edited(from, to), "f", Some(time(2023, 12, 31, 23, 45)));
         checks.same(to, sentence.contains(&wanted), true);

@@ -297,8 +297,8 @@ impl Told<'_> {
             Some(Owner::Check { device, instrument, check }) => format!("device {device}, {instrument} check {check}"),
             Some(Owner::Interval { device, interval }) => format!("device {device}, interval {interval}"),
         };
-        let beginning = self.beginning(start).map_or(String::new(), |time| format!(" ({})", time.text()));
-        format!(" of {owner}{beginning}")
+        let beginning = self.beginning(start).map_or(String::new(), |time| format!(", {}", time.text()));
+        format!(" ({owner}{beginning})")
     }
 
     fn right(&self) -> String {
