@@ -70,7 +70,7 @@ record-read-settled t before one two old new other line line′ m n x y =
       told-once (λ (a : RecordType.ReadAnswer). Reader.toldIn a .number) (e .0) (x .told) (y .told),
     )
 
--- The year's program (host/year.c) lends rows of 35,136 × 16 entries and reads at most 34,328,709 bytes: by `report-cut` what is
--- right of those is right of the whole input.
+-- The command (host/sheet.c) lends rows of at most 35,136 × 16 entries, and of a longer file it reads 34,328,709 bytes and some more:
+-- by `report-cut` what is right of those is right of the whole file.
 year-enough : 61 * (35136 * 16) + 35972 < 34328709
 year-enough = omega arith
