@@ -36,16 +36,18 @@ fn edited(from: &str, to: &str) -> Vec<u8> {
 
 fn page_example(checks: &mut Checks) {
     let interval = " flow=1 ch4=1 temp=1 press=50000 status=1".repeat(2_976);
-    // Two checks make the flow of interval 823 line 4 + 3 + 4 + 5 x 823 + 1.
-    let head = "intervals=2976 devices=1 mine=0 fuels=0 kind=1 flow_checks=1 at=0 drift=0 ch4_checks=1 at=0 drift=0";
+    // A fuel line and six checks make the flow of interval 823 line 4 + 2 + 3 + 12 + 5 x 823 + 1.
+    let check = " at=0 drift=0 at=1 drift=0 at=2 drift=0";
+    let fuel = "intervals=2976 devices=1 mine=0 fuels=1 quantity=1 factor=1";
+    let head = format!("{fuel} kind=1 flow_checks=3{check} ch4_checks=3{check}");
     let mut text = String::from_utf8(lines(&format!("{head}{interval}"))).unwrap();
-    checks.same("nothing is said of a sheet", said(text.as_bytes(), "month.record", None), String::new());
+    checks.same("nothing is said of a sheet", said(text.as_bytes(), "wrong.record", None), String::new());
     let line = text.match_indices("flow=1\n").nth(823).unwrap().0;
     text.replace_range(line..line + 6, "flow=30001");
-    let wanted = "cmm: month.record:4127: a reading is out of range: flow=30001 (device 0, interval 823, \
+    let wanted = "cmm: wrong.record:4137: a reading is out of range: flow=30001 (device 0, interval 823, \
         2026-01-09T13:45); 0 to 30000 is right, in 0.1 m3, or nothing where it is missing\n";
     let start = Some(time(2026, 1, 1, 0, 0));
-    checks.same("the page's example", said(text.as_bytes(), "month.record", start).as_str(), wanted);
+    checks.same("the page's example", said(text.as_bytes(), "wrong.record", start).as_str(), wanted);
 }
 
 fn numbers(checks: &mut Checks) {
@@ -182,8 +184,7 @@ fn line_lengths(checks: &mut Checks) {
 fn ends(checks: &mut Checks) {
     let whole = lines(EXAMPLE);
     let more = |bytes: &[u8]| [&whole[..], bytes].concat();
-    let status =
-        "(device 0, interval 0); status= and 0 to 3 is right, for stopped, running, running and attested, no \
+    let status = "(device 0, interval 0); status= and 0 to 3 is right, for stopped, running, running and attested, no \
         thermocouple record";
     for (text, wanted) in [
         (vec![], "1: the line is wrong: the text ends; intervals= and 1 to 35136 is right".to_string()),
