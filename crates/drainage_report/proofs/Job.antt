@@ -28,14 +28,14 @@ use Rattle.drainage_record_form.specs.Field as Field
 use Rattle.drainage_record_form.specs.Field.{Field}
 use Rattle.drainage_record_form.specs.Plan.{Line, lineIs}
 use Rattle.drainage_record_form.specs.Rows.{Rows, withSeries, store, stored, roomOf, lesser}
-use Rattle.drainage_record_form.specs.File.{Record, Fine, file}
+use Rattle.drainage_record_form.specs.File.{Record, Limits, file}
 use Rattle.drainage_record_form.proofs.Covered.{SameLong, covered, stored-long}
 use Rattle.drainage_record.specs.Read.{toldIn, ReadRight, RecordRead, Outside, NoRoom, Wrong, Refused}
 use Rattle.drainage_record.specs.declared.Header.{Header}
 use Rattle.drainage_record.specs.declared.ReadAnswer.{ReadAnswer}
 use Rattle.drainage_record.specs.declared.ReadAnswer.the-variants as ReadAnswer
 use Rattle.drainage_record.proofs.ReadAnswer as ReadAnswerType
-use Rattle.drainage_report.specs.Quantified.{Roomy, ResultRows, Quantified, partsOf, partsAfter, callOf, answerTo}
+use Rattle.drainage_report.specs.Quantified.{Roomy, ResultRows, Quantified, partOf, partsOf, partsAfter, callOf, answerTo}
 use Rattle.drainage_report.specs.Report.{refusalText, printed, Lent, readerRows, outputOf, resultsOf, AsLong, Whatever, Reported}
 use Rattle.drainage_report.proofs.Laws.{lesser-first}
 
@@ -151,15 +151,21 @@ rest-stored (l ∷ ls) r s e =
     rest-stored ls (store (l .field) (l .value) r) (store (l .field) (l .value) s)
     (rest-store (l .field) (l .value) r ∙ ap (λ (w : Rows). rest (store (l .field) (l .value) w)) e ∙ sym (rest-store (l .field) (l .value) s))
 
--- ---- what stands in the lent rows does not matter
+-- ---- neither what stands in the lent rows matters, nor that there is more room than a record needs
 
-pub same-room : (k l : Lent) → AsLong k l → roomOf (readerRows k) ≡ roomOf (readerRows l)
-unfolding readerRows
-same-room k l e = let s = e .series in λ i. lesser (s .flow i) (lesser (s .content i) (lesser (s .temp i) (lesser (s .press i) (s .status i))))
+-- k has room for each record that l has room for, and quantification is handed result rows of the same lengths.
+pub record Serves (k l : Lent) : Type 0 where
+  pub room : roomOf (readerRows l) ≤ roomOf (readerRows k)
+  pub outcome : (m : ℕ) → m ≤ roomOf (readerRows l) → partOf m (k .results .outcome) ≡ partOf m (l .results .outcome)
+  pub flow-used : (m : ℕ) → m ≤ roomOf (readerRows l) → partOf m (k .results .flow) ≡ partOf m (l .results .flow)
+  pub content-used : (m : ℕ) → m ≤ roomOf (readerRows l) → partOf m (k .results .content) ≡ partOf m (l .results .content)
 
-module _ (t : List ℕ) (k l : Lent) (e : AsLong k l) where
+module _ (t : List ℕ) (k l : Lent) (e : Serves k l) where
   outside-other : {after : Rows} {offends : ℕ → ℕ → Type 0} → Outside t (readerRows l) after offends → Outside t (readerRows k) (readerRows k) offends
   outside-other x = record { intervals = x .intervals; devices = x .devices; headed = x .headed; offence = x .offence; same = refl }
+
+  limits-other : (n d : ℕ) → Limits n d (roomOf (readerRows l)) → Limits n d (roomOf (readerRows k))
+  limits-other n d x = record { intervals = x .intervals; devices = x .devices; entries = omega (arith, x .entries, e .room) }
 
   record-other : {after : Rows} {h : Header} → (x : RecordRead t (readerRows l) after h) → RecordRead t (readerRows k) (stored (x .lines) (readerRows k)) h
   record-other {h = h} x =
@@ -169,12 +175,7 @@ module _ (t : List ℕ) (k l : Lent) (e : AsLong k l) where
         is = x .is;
         rest = x .rest;
         head = x .head;
-        limits =
-            record {
-              intervals = x .limits .intervals;
-              devices = x .limits .devices;
-              entries = subst (λ (m : ℕ). h .intervals * h .devices ≤ m) (sym (same-room k l e)) (x .limits .entries);
-            };
+        limits = limits-other (h .intervals) (h .devices) (x .limits);
         rows = refl;
       }
 
@@ -184,7 +185,7 @@ module _ (t : List ℕ) (k l : Lent) (e : AsLong k l) where
         lines = x .lines;
         first = x .first;
         number = x .number;
-        fine = subst (Fine t) (sym (same-room k l e)) (x .fine);
+        fine = record { limits = λ n d y. limits-other n d (x .fine .limits n d y) };
         rows = refl;
       }
 
@@ -201,6 +202,9 @@ module _ (t : List ℕ) (k l : Lent) (e : AsLong k l) where
         (subst Record (x .head) (x .follows)) (readerRows k) (readerRows l)
         (room-of t k (stored (x .lines) (readerRows k)) h (record-other x)) (room-of t l after h x)))
 
+    within : h .devices * h .intervals ≤ roomOf (readerRows l)
+    within = omega (arith, x .limits .entries, turned (h .intervals) (h .devices))
+
     call-both : callOf h (stored (x .lines) (readerRows k)) (k .results) ≡ callOf h (stored (x .lines) (readerRows l)) (l .results)
     unfolding callOf readerRows
     call-both =
@@ -214,9 +218,9 @@ module _ (t : List ℕ) (k l : Lent) (e : AsLong k l) where
           checks = checksTake (h .devices) (others i .checks);
           series = alike i;
           fuel = fuelTake (h .fuels) (others i .fuel);
-          outcome-length = lesser (e .outcome i) (h .devices * h .intervals);
-          flow-row-length = lesser (e .flow-used i) (h .devices * h .intervals);
-          content-row-length = lesser (e .content-used i) (h .devices * h .intervals);
+          outcome-length = e .outcome (h .devices * h .intervals) within i;
+          flow-row-length = e .flow-used (h .devices * h .intervals) within i;
+          content-row-length = e .content-used (h .devices * h .intervals) within i;
         }
 
   call-other : (after : Rows) (h : Header) (x : RecordRead t (readerRows l) after h)
@@ -228,34 +232,65 @@ module _ (t : List ℕ) (k l : Lent) (e : AsLong k l) where
   unfolding answerTo
   answer-other after h x = ap (λ (c : Call). answerBy (judged c) c) (sym (call-other after h x))
 
-  pub whatever-else : (after : Rows) (a : ReadAnswer) → ReadRight t (readerRows l) after a → Whatever t k (outputOf a after l)
-  whatever-else after (ReadAnswer.Record h) x =
+  told-other : (r : Refusal) (rows : Rows) → Refused t (readerRows k) rows r → Whatever t k (refusalText (toldOf r))
+  told-other r rows y = record { answer = ReadAnswer.Refused r; rows = rows; read = y; output = refl }
+
+  -- Whoever is not refused for want of room gets the same output from k.
+  pub served : (after : Rows) (a : ReadAnswer) → ReadRight t (readerRows l) after a → (toldIn a .number ≡ 13 → ⊥) → Whatever t k (outputOf a after l)
+  served after (ReadAnswer.Record h) x roomy =
       record {
         answer = ReadAnswer.Record h;
         rows = stored (x .lines) (readerRows k);
         read = record-other x;
         output = ap printed (answer-other after h x);
       }
-  whatever-else after (ReadAnswer.Refused r) x = refused-other r x
+  served after (ReadAnswer.Refused r) x roomy = refused-other r x roomy
     where
-      no-room : Outside t (readerRows l) after (NoRoom (roomOf (readerRows l))) → Outside t (readerRows k) (readerRows k) (NoRoom (roomOf (readerRows k)))
-      no-room y =
-          record {
-            intervals = y .intervals;
-            devices = y .devices;
-            headed = y .headed;
-            offence = (y .offence .0, y .offence .1, subst (λ (m : ℕ). m < y .intervals * y .devices) (sym (same-room k l e)) (y .offence .2));
-            same = refl;
-          }
+      refused-other : (r : Refusal) → Refused t (readerRows l) after r → (toldOf r .number ≡ 13 → ⊥) → Whatever t k (refusalText (toldOf r))
+      refused-other Refusal.Intervals (Refused.intervals y) roomy = told-other Refusal.Intervals (readerRows k) (Refused.intervals (outside-other y))
+      refused-other Refusal.Devices (Refused.devices y) roomy = told-other Refusal.Devices (readerRows k) (Refused.devices (outside-other y))
+      refused-other Refusal.Room (Refused.room y) roomy = absurd (roomy refl)
+      refused-other (Refusal.Line n) (Refused.line y) roomy =
+          told-other (Refusal.Line n) (stored (y .lines) (readerRows k)) (Refused.line (wrong-other y))
 
-      told-other : (r : Refusal) (rows : Rows) → Refused t (readerRows k) rows r → Whatever t k (refusalText (toldOf r))
-      told-other r rows y = record { answer = ReadAnswer.Refused r; rows = rows; read = y; output = refl }
+-- ---- rows of the same lengths
 
-      refused-other : (r : Refusal) → Refused t (readerRows l) after r → Whatever t k (refusalText (toldOf r))
-      refused-other Refusal.Intervals (Refused.intervals y) = told-other Refusal.Intervals (readerRows k) (Refused.intervals (outside-other y))
-      refused-other Refusal.Devices (Refused.devices y) = told-other Refusal.Devices (readerRows k) (Refused.devices (outside-other y))
-      refused-other Refusal.Room (Refused.room y) = told-other Refusal.Room (readerRows k) (Refused.room (no-room y))
-      refused-other (Refusal.Line n) (Refused.line y) = told-other (Refusal.Line n) (stored (y .lines) (readerRows k)) (Refused.line (wrong-other y))
+pub same-room : (k l : Lent) → AsLong k l → roomOf (readerRows k) ≡ roomOf (readerRows l)
+unfolding readerRows
+same-room k l e = let s = e .series in λ i. lesser (s .flow i) (lesser (s .content i) (lesser (s .temp i) (lesser (s .press i) (s .status i))))
+
+as-long-serves : (k l : Lent) → AsLong k l → Serves k l
+as-long-serves k l e =
+    record {
+      room = omega (arith, same-room k l e);
+      outcome = λ m h. ap (λ (n : ℕ). lesser n m) (e .outcome);
+      flow-used = λ m h. ap (λ (n : ℕ). lesser n m) (e .flow-used);
+      content-used = λ m h. ap (λ (n : ℕ). lesser n m) (e .content-used);
+    }
+
+module _ (t : List ℕ) (k l : Lent) (e : AsLong k l) where
+  no-room : {after : Rows} → Outside t (readerRows l) after (NoRoom (roomOf (readerRows l))) → Outside t (readerRows k) (readerRows k)
+      (NoRoom (roomOf (readerRows k)))
+  no-room y =
+      record {
+        intervals = y .intervals;
+        devices = y .devices;
+        headed = y .headed;
+        offence = (y .offence .0, y .offence .1, subst (λ (m : ℕ). m < y .intervals * y .devices) (sym (same-room k l e)) (y .offence .2));
+        same = refl;
+      }
+
+  -- What stands in rows of the same lengths does not matter.
+  pub whatever-else : (after : Rows) (a : ReadAnswer) → ReadRight t (readerRows l) after a → Whatever t k (outputOf a after l)
+  whatever-else after (ReadAnswer.Refused Refusal.Room) (Refused.room y) =
+      told-other t k l (as-long-serves k l e) Refusal.Room (readerRows k) (Refused.room (no-room y))
+  whatever-else after (ReadAnswer.Record h) x = served t k l (as-long-serves k l e) after (ReadAnswer.Record h) x (λ q. omega (arith, q))
+  whatever-else after (ReadAnswer.Refused Refusal.Intervals) x =
+      served t k l (as-long-serves k l e) after (ReadAnswer.Refused Refusal.Intervals) x (λ q. omega (arith, q))
+  whatever-else after (ReadAnswer.Refused Refusal.Devices) x =
+      served t k l (as-long-serves k l e) after (ReadAnswer.Refused Refusal.Devices) x (λ q. omega (arith, q))
+  whatever-else after (ReadAnswer.Refused (Refusal.Line n)) x =
+      served t k l (as-long-serves k l e) after (ReadAnswer.Refused (Refusal.Line n)) x (λ q. omega (arith, q))
 
 -- ---- the job
 
