@@ -19,17 +19,23 @@ static size_t lesser(size_t a, size_t b)
     return a < b ? a : b;
 }
 
-/* A regular file's own length and one byte, so that one read takes it all and the next one finds its end. */
-static size_t wanted(const struct stat *s, size_t most)
+/* What the system says of an open file. (struct statx is the same on every processor, whosever headers the compiler has.) */
+static int ask(int file, struct statx *s)
 {
-    if (!S_ISREG(s->st_mode) || s->st_size <= 0)
-        return lesser(UNKNOWN, most);
-    return (uintmax_t)s->st_size < most ? (size_t)s->st_size + 1 : most;
+    return statx(file, "", AT_EMPTY_PATH, STATX_TYPE | STATX_SIZE | STATX_MTIME, s);
 }
 
-static int changed(const struct stat *a, const struct stat *b)
+/* A regular file's own length and one byte, so that one read takes it all and the next one finds its end. */
+static size_t wanted(const struct statx *s, size_t most)
 {
-    return a->st_size != b->st_size || a->st_mtim.tv_sec != b->st_mtim.tv_sec || a->st_mtim.tv_nsec != b->st_mtim.tv_nsec;
+    if (!S_ISREG(s->stx_mode) || s->stx_size == 0)
+        return lesser(UNKNOWN, most);
+    return s->stx_size < most ? (size_t)s->stx_size + 1 : most;
+}
+
+static int changed(const struct statx *a, const struct statx *b)
+{
+    return a->stx_size != b->stx_size || a->stx_mtime.tv_sec != b->stx_mtime.tv_sec || a->stx_mtime.tv_nsec != b->stx_mtime.tv_nsec;
 }
 
 /* Room for `size` bytes, those read so far among them. */
@@ -64,17 +70,17 @@ static int read_all(int file, size_t size, size_t most, struct text *t)
 
 static int read_open(int file, size_t most, struct text *t)
 {
-    struct stat before, after;
+    struct statx before, after;
     size_t size;
 
-    if (fstat(file, &before) != 0)
+    if (ask(file, &before) != 0)
         return trouble(t->name, strerror(errno));
     size = wanted(&before, most);
     if (grow(t, size) != YES || read_all(file, size, most, t) != YES)
         return TROUBLE;
-    if (fstat(file, &after) != 0)
+    if (ask(file, &after) != 0)
         return trouble(t->name, strerror(errno));
-    if (S_ISREG(before.st_mode) && changed(&before, &after))
+    if (S_ISREG(before.stx_mode) && changed(&before, &after))
         return trouble(t->name, "changed while it was read");
     return YES;
 }

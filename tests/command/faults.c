@@ -12,7 +12,7 @@
 void *__real_realloc(void *old, size_t size);
 ssize_t __real_read(int file, void *to, size_t size);
 ssize_t __real_write(int file, const void *from, size_t size);
-int __real_fstat(int file, struct stat *s);
+int __real_statx(int at, const char *path, int flags, unsigned mask, struct statx *s);
 int __real_close(int file);
 
 static int is(const char *fault)
@@ -87,12 +87,12 @@ ssize_t __wrap_write(int file, const void *from, size_t size)
     return __real_write(file, from, is("write-slow") && size > 7 ? 7 : size);
 }
 
-int __wrap_fstat(int file, struct stat *s)
+int __wrap_statx(int at, const char *path, int flags, unsigned mask, struct statx *s)
 {
     static int call;
 
     ++call;
-    return (call == 1 && is("fstat-1")) || (call == 2 && is("fstat-2")) ? fail(EIO) : __real_fstat(file, s);
+    return (call == 1 && is("statx-1")) || (call == 2 && is("statx-2")) ? fail(EIO) : __real_statx(at, path, flags, mask, s);
 }
 
 int __wrap_close(int file)
