@@ -17,7 +17,8 @@
  * - Each writes what is said of it below and no other byte. By its frames cmm_report takes 12.4 KB of stack,
  *   whatever the lengths.
  *
- * Refusals. Each function but cmm_report gives the number, 0 where nothing is refused; cmm_report writes it as text.
+ * Refusals. Each function but cmm_version and cmm_report gives the number, 0 where nothing is refused; cmm_report writes it as
+ * text.
  *
  *   no.  when                                                            given by
  *    1   intervals not in 1 .. 35,136                                    cmm_quantify, cmm_read_record

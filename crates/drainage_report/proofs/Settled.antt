@@ -1,4 +1,5 @@
--- The promise settles the output and every lent entry, and a text longer than any record file is answered by its beginning.
+-- The promise settles the output and every lent entry, a text longer than any record file is answered by its beginning, and rows
+-- longer than a record needs make no difference.
 -- Assumes nothing.
 use Prim.Native.Nat.{ℕ, _+_, _*_, _<_, _≤_}
 use mathlib.Core.Path.{_≡_, refl, sym, ap, _∙_, subst}
