@@ -35,8 +35,11 @@
  *   11   the buffer is too short for the sheet                           cmm_write_sheet
  *   12   a line of the record file is wrong                              cmm_read_record
  *   13   the record has more entries than the shortest row lent for it   cmm_read_record
+ *   14   the export is not five times as long as the row                 cmm_read_flow
+ *   15   a sample's quality is not 0, 1 or 2                             cmm_read_flow
+ *   16   a good sample's reading is no number, below 0 or above 3,000    cmm_read_flow
  *
- * cmm_quantify tests 1 to 9 in this order and gives the first that applies.
+ * cmm_quantify tests 1 to 9 in this order and gives the first that applies. cmm_read_flow tests 14 and then sample after sample.
  */
 #ifndef CMM_H
 #define CMM_H
@@ -46,7 +49,7 @@
 
 /* The version of this header: the number of the latest note in docs/landings. cmm_version() gives the library's own, and a host that
  * finds the two different must not call it: arrays may have other lengths. */
-#define CMM_VERSION 2
+#define CMM_VERSION 3
 
 #ifdef __cplusplus
 extern "C" {
@@ -58,7 +61,8 @@ enum {
     CMM_ENTRIES_MOST = 35136 * 16, /* a row that has room for every record */
     CMM_FUELS_MOST = 64,
     CMM_CHECKS_MOST = 32, /* of one instrument */
-    CMM_TEXT_MOST = 465   /* bytes of a sheet, or of a refusal's three lines */
+    CMM_TEXT_MOST = 465,  /* bytes of a sheet, or of a refusal's three lines */
+    CMM_SAMPLE = 5        /* bytes of a historian's sample */
 };
 
 /* The ranges of what a record says (a reading that is missing has its mark instead, below). Check positions go to the number of
@@ -76,7 +80,9 @@ enum {
     CMM_DRIFT_LEAST = -9000,
     CMM_DRIFT_MOST = 20000,
     CMM_QUANTITY_MOST = 1000000000,
-    CMM_FACTOR_MOST = 4000000
+    CMM_FACTOR_MOST = 4000000,
+    CMM_QUALITY_MOST = 2,   /* of a historian's sample */
+    CMM_READING_MOST = 3000 /* m3, of a good one */
 };
 
 /* No record file for rows of n entries is longer than this, in bytes. A longer text is refused whatever follows, and so are its
@@ -196,6 +202,15 @@ uint64_t cmm_read_record(
     uint32_t *press, size_t press_length,
     uint8_t *status, size_t status_length,
     uint32_t head[4], uint64_t line[1]);
+
+/* Reads a historian's export of one device's flow into a row that cmm_quantify takes: five bytes a sample, a byte of quality
+ * (0 good, 1 uncertain, 2 bad) and then an IEEE 754 binary32 in m3, low byte first. With a row of n entries the export has 5 n bytes,
+ * and sample k is entry k's. A good sample becomes ten times its reading's exact value, rounded down, so 0.1 m3 as ever; minus zero
+ * is 0. An uncertain or a bad one becomes CMM_FLOW_MISSING, whatever its four bytes are. n may be 0.
+ *
+ * `place` gets 0, or for 15 and 16 the number, from 0, of the first sample that is refused. Refused, the call leaves the row as it
+ * was; otherwise it writes every entry, each in 0 .. CMM_FLOW_MOST or CMM_FLOW_MISSING. Gives 0, 14, 15 or 16. */
+uint64_t cmm_read_flow(const uint8_t *t, size_t t_length, uint16_t *flow, size_t flow_length, uint64_t place[1]);
 
 /* The whole job: reads a record file, quantifies it and writes its sheet, or the refusal as three lines
  * (refusal=NUMBER, device=NUMBER, place=NUMBER), at the start of `out`; no byte after its end is changed. Gives the length written.
