@@ -8,7 +8,7 @@ use mathlib.Core.List.{List, [], _∷_}
 use lib.Dec.{eqb}
 use Rattle.refusals.specs.declared.Refusal.{Refusal}
 use Rattle.refusals.specs.declared.Refusal.the-variants.{Intervals, Devices, Lengths, Mine, Kind, Misplaced, Check, Reading, Fuel, NoSheet, ShortBuffer}
-use Rattle.refusals.specs.declared.Refusal.the-variants.{Line, Room}
+use Rattle.refusals.specs.declared.Refusal.the-variants.{Line, Room, ExportLength, SampleQuality, SampleReading}
 use Rattle.refusals.specs.declared.Verdict.{Verdict}
 use Rattle.refusals.specs.declared.Verdict.the-variants.{Clean, Refused}
 use Rattle.refusals.specs.declared.Told.{Told}
@@ -30,6 +30,9 @@ toldOf (NoSheet offset) = told 10 0 offset
 toldOf (ShortBuffer needed) = told 11 0 needed
 toldOf (Line line) = told 12 0 line
 toldOf Room = told 13 0 0
+toldOf ExportLength = told 14 0 0
+toldOf (SampleQuality sample) = told 15 0 sample
+toldOf (SampleReading sample) = told 16 0 sample
 
 -- where nothing is refused
 abbrev pub nothing : Told
@@ -43,7 +46,7 @@ toldBy (Refused r) = toldOf r
 abbrev all : List Refusal
 all =
     Intervals ∷ Devices ∷ Lengths ∷ Mine ∷ Kind 0 ∷ Misplaced 0 ∷ Check 0 0 ∷ Reading 0 0 ∷ Fuel 0
-    ∷ NoSheet 0 ∷ ShortBuffer 0 ∷ Line 0 ∷ Room ∷ []
+    ∷ NoSheet 0 ∷ ShortBuffer 0 ∷ Line 0 ∷ Room ∷ ExportLength ∷ SampleQuality 0 ∷ SampleReading 0 ∷ []
 
 lacks : ℕ → List Refusal → Bool
 lacks number [] = true
@@ -78,3 +81,6 @@ listed (NoSheet offset) = refl
 listed (ShortBuffer needed) = refl
 listed (Line line) = refl
 listed Room = refl
+listed ExportLength = refl
+listed (SampleQuality sample) = refl
+listed (SampleReading sample) = refl

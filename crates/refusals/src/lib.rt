@@ -17,6 +17,9 @@ pub enum Refusal {
     ShortBuffer(usize),
     Line(usize),
     Room,
+    ExportLength,
+    SampleQuality(usize),
+    SampleReading(usize),
 }
 
 // Nothing is wrong, or the first refusal.
@@ -63,6 +66,9 @@ impl Refusal {
             Refusal::ShortBuffer(needed) => Told::at(11, 0, needed),
             Refusal::Line(line) => Told::at(12, 0, line),
             Refusal::Room => Told::at(13, 0, 0),
+            Refusal::ExportLength => Told::at(14, 0, 0),
+            Refusal::SampleQuality(sample) => Told::at(15, 0, sample),
+            Refusal::SampleReading(sample) => Told::at(16, 0, sample),
         }
     }
 }

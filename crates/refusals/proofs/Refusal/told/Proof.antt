@@ -1,6 +1,7 @@
 -- Each arm gives its line of the table.
-use mathlib.Core.Path.{_∙_}
+use mathlib.Core.Path.{sym, ap, _∙_}
 use borrow.Author.Needs.{needs}
+use Rattle.refusals.specs.Table.{toldOf}
 use Rattle.refusals.proofs.Refusal.told.Statement.{statement}
 use Rattle.refusals.proofs.Refusal.told.Tie as tie
 
@@ -82,6 +83,24 @@ enum-told-5 c = search needs
 at-requires-13 : tie.Need-at-requires-13
 at-requires-13 c κs = search needs
 
+enum-told-6 : tie.Need-enum-told-6
+enum-told-6 c = search needs
+
+at-requires-14 : tie.Need-at-requires-14
+at-requires-14 c κs = search needs
+
+enum-known-self-9 : tie.Need-enum-known-self-9
+enum-known-self-9 c = search needs
+
+at-requires-15 : tie.Need-at-requires-15
+at-requires-15 c κs = search needs
+
+enum-known-self-10 : tie.Need-enum-known-self-10
+enum-known-self-10 c = search needs
+
+at-requires-16 : tie.Need-at-requires-16
+at-requires-16 c κs = search needs
+
 returns : tie.Need-returns
 returns c = c .at .ensures ∙ search needs
 
@@ -95,31 +114,40 @@ returns-4 : tie.Need-returns-4
 returns-4 c = c .at4 .ensures ∙ search needs
 
 returns-5 : tie.Need-returns-5
-returns-5 c = c .at5 .ensures ∙ search needs
+returns-5 c = c .at5 .ensures ∙ ap toldOf (sym (c .before .before .self .given .1))
 
 returns-6 : tie.Need-returns-6
-returns-6 c = c .at6 .ensures ∙ search needs
+returns-6 c = c .at6 .ensures ∙ ap toldOf (sym (c .before .before .self2 .given .1))
 
 returns-7 : tie.Need-returns-7
-returns-7 c = c .at7 .ensures ∙ search needs
+returns-7 c = c .at7 .ensures ∙ ap toldOf (sym (c .before .before .self3 .given .1))
 
 returns-8 : tie.Need-returns-8
-returns-8 c = c .at8 .ensures ∙ search needs
+returns-8 c = c .at8 .ensures ∙ ap toldOf (sym (c .before .before .self4 .given .1))
 
 returns-9 : tie.Need-returns-9
-returns-9 c = c .at9 .ensures ∙ search needs
+returns-9 c = c .at9 .ensures ∙ ap toldOf (sym (c .before .before .self5 .given .1))
 
 returns-10 : tie.Need-returns-10
-returns-10 c = c .at10 .ensures ∙ search needs
+returns-10 c = c .at10 .ensures ∙ ap toldOf (sym (c .before .before .self6 .given .1))
 
 returns-11 : tie.Need-returns-11
-returns-11 c = c .at11 .ensures ∙ search needs
+returns-11 c = c .at11 .ensures ∙ ap toldOf (sym (c .before .before .self7 .given .1))
 
 returns-12 : tie.Need-returns-12
-returns-12 c = c .at12 .ensures ∙ search needs
+returns-12 c = c .at12 .ensures ∙ ap toldOf (sym (c .before .before .self8 .given .1))
 
 returns-13 : tie.Need-returns-13
 returns-13 c = c .at13 .ensures ∙ search needs
+
+returns-14 : tie.Need-returns-14
+returns-14 c = c .at14 .ensures ∙ search needs
+
+returns-15 : tie.Need-returns-15
+returns-15 c = c .at15 .ensures ∙ ap toldOf (sym (c .before .before .self9 .given .1))
+
+returns-16 : tie.Need-returns-16
+returns-16 c = c .at16 .ensures ∙ ap toldOf (sym (c .before .before .self10 .given .1))
 
 pub told-spec : {M : Type 1} → statement M
 told-spec =
@@ -151,6 +179,12 @@ told-spec =
     at-requires-12
     enum-told-5
     at-requires-13
+    enum-told-6
+    at-requires-14
+    enum-known-self-9
+    at-requires-15
+    enum-known-self-10
+    at-requires-16
     returns
     returns-2
     returns-3
@@ -163,4 +197,7 @@ told-spec =
     returns-10
     returns-11
     returns-12
-    returns-13)
+    returns-13
+    returns-14
+    returns-15
+    returns-16)
