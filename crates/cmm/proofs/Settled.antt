@@ -3,6 +3,8 @@ use Prim.Native.Nat.{ℕ, _+_, _*_, _<_}
 use mathlib.Core.Path.{_≡_, sym, ap, _∙_}
 use mathlib.Core.List.{List, [], _∷_}
 use native.Mathlib.Omega.{arith}
+use Rattle.refusals.specs.declared.Verdict.{Verdict}
+use Rattle.refusals.specs.Table.{toldBy}
 use Rattle.drainage_judge.specs.Call.{Call}
 use Rattle.drainage_devices.specs.Devices.{Results}
 use Rattle.figures.specs.declared.Figures.{Figures}
@@ -18,7 +20,8 @@ use Rattle.drainage_record_form.specs.Rows as Record
 use Rattle.drainage_record.specs.Read as Reader
 use Rattle.drainage_record.specs.declared.ReadAnswer as RecordType
 use Rattle.drainage_record.proofs.Settled as RecordSettled
-use Rattle.cmm.specs.Exported.{Arrays, arraysAfter, arraysOf, sizeOf, headAfter, Quantified, SheetWritten, SheetRead, RecordRead}
+use Rattle.historian.proofs.Settled.{read-unique}
+use Rattle.cmm.specs.Exported.{Arrays, arraysAfter, arraysOf, sizeOf, headAfter, Quantified, SheetWritten, SheetRead, RecordRead, FlowRead}
 
 -- two things told of two answers that are one
 told-once : {A B : Type 0} (f : A → B) {a b : A} {x y : B} → a ≡ b → x ≡ f a → y ≡ f b → x ≡ y
@@ -68,6 +71,15 @@ record-read-settled t before one two old new other line line′ m n x y =
       told-once (λ (a : RecordType.ReadAnswer). headAfter a old) (e .0) (x .head) (y .head),
       told-once (λ (a : RecordType.ReadAnswer). Reader.toldIn a .place ∷ []) (e .0) (x .place) (y .place),
       told-once (λ (a : RecordType.ReadAnswer). Reader.toldIn a .number) (e .0) (x .told) (y .told),
+    )
+
+pub flow-read-settled : (t before one two at at′ : List ℕ) (m n : ℕ) → FlowRead t before one at m → FlowRead t before two at′ n
+    → (one ≡ two) × (at ≡ at′) × (m ≡ n)
+flow-read-settled t before one two at at′ m n x y =
+    let e = read-unique t before one two (x .answer) (y .answer) (x .right) (y .right) in (
+      e .1,
+      told-once (λ (v : Verdict). toldBy v .place ∷ []) (e .0) (x .place) (y .place),
+      told-once (λ (v : Verdict). toldBy v .number) (e .0) (x .told) (y .told),
     )
 
 -- The command (host/sheet.c) lends rows of at most 35,136 × 16 entries, and of a longer file it reads 34,328,709 bytes and some more:

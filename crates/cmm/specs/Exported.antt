@@ -4,7 +4,8 @@ use Prim.Native.Nat.{ℕ}
 use mathlib.Core.Path.{_≡_}
 use mathlib.Core.List.{List, [], _∷_}
 use lib.IntN.{ℤ}
-use Rattle.refusals.specs.Table.{toldOf}
+use Rattle.refusals.specs.declared.Verdict.{Verdict}
+use Rattle.refusals.specs.Table.{toldOf, toldBy}
 use Rattle.figures.specs.declared.Figures.{Figures}
 use Rattle.drainage_judge.specs.Call.{Call}
 use Rattle.drainage_devices.specs.Devices.{Results}
@@ -24,11 +25,12 @@ use Rattle.drainage_record.specs.Read as Reader
 use Rattle.drainage_record.specs.declared.Header.{Header}
 use Rattle.drainage_record.specs.declared.ReadAnswer as RecordType
 use Rattle.drainage_record.specs.declared.ReadAnswer.the-variants as RecordAnswer
+use Rattle.historian.specs.Read as Historian
 use Rattle.cmm.specs.Figures.{amountsOf, balancesOf}
 
 -- The number that header, library and command share: that of the latest note in docs/landings.
 abbrev pub version : ℕ
-version = 2
+version = 3
 
 -- the host's two arrays of figures
 pub record Arrays : Type 0 where
@@ -85,3 +87,9 @@ pub record RecordRead (t : List ℕ) (before after : Record.Rows) (old new line 
   pub told : number ≡ Reader.toldIn answer .number
   pub place : line ≡ Reader.toldIn answer .place ∷ []
   pub head : new ≡ headAfter answer old
+
+pub record FlowRead (t before after at : List ℕ) (number : ℕ) : Type 0 where
+  pub answer : Verdict
+  pub right : Historian.ReadRight t before after answer
+  pub told : number ≡ toldBy answer .number
+  pub place : at ≡ toldBy answer .place ∷ []
