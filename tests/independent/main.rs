@@ -9,6 +9,7 @@ mod compare;
 mod compare_calls;
 mod compare_command;
 mod compare_exports;
+mod compare_flow;
 mod damaged_files;
 mod damaged_sheets;
 mod decimal;
@@ -16,6 +17,9 @@ mod draw;
 mod drift;
 mod exact;
 mod exports;
+mod flow_cases;
+mod flow_command;
+mod flow_words;
 mod gap_files;
 mod gaps;
 mod generate;
@@ -24,6 +28,7 @@ mod image;
 mod library;
 mod library_texts;
 mod natural;
+mod nine_digits;
 mod outcomes;
 mod pattern_sums;
 mod plain_files;
@@ -41,6 +46,7 @@ mod rng;
 mod samples;
 mod selfcheck;
 mod selfcheck_calls;
+mod selfcheck_flow;
 mod selfcheck_historian;
 mod selfcheck_texts;
 mod selfcheck_words;
@@ -69,6 +75,7 @@ const USAGE: &str = "usage:
   independent compare-row ROW SEED COUNT PROGRAM [WORDS] the same for a reader that is lent longer rows
   independent compare-sheets SEED COUNT PROGRAM [WORDS]  a program that answers as read-sheet does
   independent compare-command ROW SEED COUNT PROGRAM [WORDS] -- COMMAND [WORDS]   the program and `COMMAND sheet`
+  independent compare-flow ROW SEED COUNT -- COMMAND [WORDS]   `COMMAND sheet --flow`; no record has more than ROW entries
   independent compare-calls SEED COUNT SERVER            the library's cmm_quantify on generated calls
   independent compare-library SEED COUNT ROW SERVER      its cmm_report with rows of this length, result rows too
   independent compare-library-sheets SEED COUNT SERVER   its reader and writer of sheets
@@ -107,6 +114,7 @@ fn run(words: &[&str]) -> Option<bool> {
         ["compare-row", row, seed, count, program @ ..] => compare_records(row.parse().ok()?, seed, count, program),
         ["compare-sheets", seed, count, program @ ..] => compare_sheets(seed, count, program),
         ["compare-command", row, seed, count, words @ ..] => compare_command(row, seed, count, words),
+        ["compare-flow", row, seed, count, "--", command @ ..] => compare_flow(row, seed, count, command),
         ["compare-calls", seed, count, server @ ..] => compare_calls(seed, count, server),
         ["compare-library", seed, count, row, server @ ..] => compare_library(seed, count, row, server),
         ["compare-library-sheets", seed, count, server @ ..] => compare_library_sheets(seed, count, server),
@@ -182,6 +190,15 @@ fn compare_command(row: &str, seed: &str, count: &str, words: &[&str]) -> Option
     let both = Both { program, command, directory };
     let summary = compare::compare(count, &|number| compare_command::judge(seed, number, row, &both));
     Some(summary.conclude("files", count, &compare_command::wanted()))
+}
+
+fn compare_flow(row: &str, seed: &str, count: &str, words: &[&str]) -> Option<bool> {
+    let (row, seed, count) = (row.parse().ok()?, seed.parse().ok()?, count.parse().ok()?);
+    let command = program(words).filter(|_| row >= compare_flow::LEAST_ROW)?.words;
+    let directory = Directory::new().expect("no directory for the files");
+    let judge = |number| compare_flow::judge(seed, number, row, &command, &directory);
+    let summary = compare::compare(count, &judge);
+    Some(summary.conclude_from(compare_flow::ENOUGH, "cases", count, &compare_flow::wanted()))
 }
 
 fn compare_calls(seed: &str, count: &str, server: &[&str]) -> Option<bool> {
