@@ -1,5 +1,5 @@
-//! The command `cmm sheet --flow`, asked about generated records and exports: its answer, its exit status and its words,
-//! byte for byte.
+//! The command `cmm sheet --flow`, asked about generated records and exports: its answer, its exit status and its
+//! words, byte for byte.
 
 use crate::compare::{keep, sheet_kinds, Judged};
 use crate::compare_command::{differs, Directory};

@@ -17,6 +17,7 @@ mod draw;
 mod drift;
 mod exact;
 mod exports;
+mod flow_arguments;
 mod flow_cases;
 mod flow_command;
 mod flow_words;
@@ -75,7 +76,7 @@ const USAGE: &str = "usage:
   independent compare-row ROW SEED COUNT PROGRAM [WORDS] the same for a reader that is lent longer rows
   independent compare-sheets SEED COUNT PROGRAM [WORDS]  a program that answers as read-sheet does
   independent compare-command ROW SEED COUNT PROGRAM [WORDS] -- COMMAND [WORDS]   the program and `COMMAND sheet`
-  independent compare-flow ROW SEED COUNT -- COMMAND [WORDS]   `COMMAND sheet --flow`; no record has more than ROW entries
+  independent compare-flow ROW SEED COUNT -- COMMAND [WORDS]   `COMMAND sheet --flow`, records of up to ROW entries
   independent compare-calls SEED COUNT SERVER            the library's cmm_quantify on generated calls
   independent compare-library SEED COUNT ROW SERVER      its cmm_report with rows of this length, result rows too
   independent compare-library-sheets SEED COUNT SERVER   its reader and writer of sheets

@@ -1,5 +1,5 @@
-//! A binary32 in nine significant digits, as C's `%.9g` writes it: worked out from all of its decimal digits, of which it
-//! has finitely many, rounded to the nearest and of two as near to the even one.
+//! A binary32 in nine significant digits, as C's `%.9g` writes it: worked out from all of its decimal digits, of which
+//! it has finitely many, rounded to the nearest and of two as near to the even one.
 
 use crate::historian::{reading, Reading};
 

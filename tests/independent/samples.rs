@@ -1,5 +1,5 @@
-//! Drawing of a historian's samples: readings that are right and readings that are refused, near every border, and whole
-//! exports that are read.
+//! Drawing of a historian's samples: readings that are right and readings that are refused, near every border, and
+//! whole exports that are read.
 
 use crate::historian::SAMPLE;
 use crate::rng::Rng;
