@@ -53,7 +53,7 @@ pub fn record_kinds(answer: &Result<Quantified, Refusal>) -> Vec<String> {
     }
 }
 
-fn sheet_kinds(quantified: &Quantified) -> Vec<String> {
+pub fn sheet_kinds(quantified: &Quantified) -> Vec<String> {
     let mut kinds = vec!["sheet".to_string()];
     let met = (0..10).filter(|&outcome| quantified.with_outcome(outcome) > 0);
     kinds.extend(met.map(|outcome| format!("sheet, outcome {outcome}")));
@@ -171,6 +171,11 @@ impl Summary {
 
     /// Prints the whole, of files or calls; true if all is well.
     pub fn conclude(&self, what: &str, count: usize, wanted: &[String]) -> bool {
+        self.conclude_from(ENOUGH, what, count, wanted)
+    }
+
+    /// The same where all that is wanted must have occurred in so many already.
+    pub fn conclude_from(&self, enough: usize, what: &str, count: usize, wanted: &[String]) -> bool {
         println!("{:24} {what:>7} {:>9}", "class", "different");
         for (class, (all, different)) in &self.classes {
             println!("{class:24} {all:7} {different:9}");
@@ -182,7 +187,7 @@ impl Summary {
             println!("number {number}: {difference}");
         }
         let lacking: Vec<&String> = wanted.iter().filter(|kind| !self.kinds.contains_key(*kind)).collect();
-        let lacks = count >= ENOUGH && !lacking.is_empty();
+        let lacks = count >= enough && !lacking.is_empty();
         if lacks {
             println!("none of the {what} gave: {lacking:?}");
         }

@@ -17,7 +17,7 @@ use std::sync::Arc;
 use std::time::{SystemTime, UNIX_EPOCH};
 
 /// The command's rows hold the longest record.
-const COMMAND_ROW: u64 = MOST_INTERVALS as u64 * MOST_DEVICES as u64;
+pub const COMMAND_ROW: u64 = MOST_INTERVALS as u64 * MOST_DEVICES as u64;
 
 const BY_THE_PROGRAM: &str = "program: refusal 13";
 
@@ -52,6 +52,16 @@ impl Directory {
         let path = std::env::temp_dir().join(format!("independent-{}-{time}", std::process::id()));
         std::fs::create_dir(&path)?;
         Ok(Directory(path))
+    }
+
+    /// Its own name.
+    pub fn name(&self) -> String {
+        self.0.to_string_lossy().into_owned()
+    }
+
+    /// The name of a file in it.
+    pub fn file(&self, name: &str) -> String {
+        self.0.join(name).to_string_lossy().into_owned()
     }
 }
 
@@ -99,12 +109,11 @@ fn refused_line(answer: &Result<Quantified, Refusal>) -> Option<usize> {
 /// By number: a file that has a name, standard input by no word, standard input by `-`.
 fn file_name(rng: &Rng, number: usize, directory: &Directory) -> Option<String> {
     let name = rng.pick(&["", " of a mine", "%s%n%d", ":12: x", "\\"]);
-    let path = directory.0.join(format!("{number:06}{name}.record"));
-    (number % 3 == 0).then(|| path.to_string_lossy().into_owned())
+    (number % 3 == 0).then(|| directory.file(&format!("{number:06}{name}.record")))
 }
 
 /// In one of two cases a beginning of interval 0, on or near a border of the calendar more often than not.
-fn drawn_start(rng: &Rng) -> Option<Time> {
+pub fn drawn_start(rng: &Rng) -> Option<Time> {
     if rng.chance(2) {
         return None;
     }
@@ -275,7 +284,7 @@ impl Case {
     }
 }
 
-fn differs(whose: &str, expected: &str, given: &[u8]) -> Option<String> {
+pub fn differs(whose: &str, expected: &str, given: &[u8]) -> Option<String> {
     let shown = || first_difference(expected, &String::from_utf8_lossy(given));
     (expected.as_bytes() != given).then(|| format!("{whose}: {}", shown()))
 }

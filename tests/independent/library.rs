@@ -12,6 +12,7 @@ pub enum Function {
     Report,
     ReadSheet,
     WriteSheet,
+    ReadFlow,
 }
 
 /// As many words as every request has; the rest are 0.

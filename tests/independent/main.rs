@@ -8,20 +8,30 @@ mod calls;
 mod compare;
 mod compare_calls;
 mod compare_command;
+mod compare_exports;
+mod compare_flow;
 mod damaged_files;
 mod damaged_sheets;
 mod decimal;
 mod draw;
 mod drift;
 mod exact;
+mod exports;
+mod flow_arguments;
+mod flow_cases;
+mod flow_command;
+mod flow_words;
 mod gap_files;
 mod gaps;
 mod generate;
+mod historian;
 mod image;
 mod library;
 mod library_texts;
 mod natural;
+mod nine_digits;
 mod outcomes;
+mod pattern_sums;
 mod plain_files;
 mod possible_text;
 mod process;
@@ -34,8 +44,11 @@ mod refusal_files;
 mod refusals;
 mod report;
 mod rng;
+mod samples;
 mod selfcheck;
 mod selfcheck_calls;
+mod selfcheck_flow;
+mod selfcheck_historian;
 mod selfcheck_texts;
 mod selfcheck_words;
 mod sheet;
@@ -52,6 +65,7 @@ use library::Library;
 use library_texts::{Records, Sheets};
 use std::io::{Read, Write};
 use std::process::ExitCode;
+use std::sync::atomic::AtomicUsize;
 
 const USAGE: &str = "usage:
   independent report [ROW]                       record file on standard input: the sheet, or three lines
@@ -62,9 +76,12 @@ const USAGE: &str = "usage:
   independent compare-row ROW SEED COUNT PROGRAM [WORDS] the same for a reader that is lent longer rows
   independent compare-sheets SEED COUNT PROGRAM [WORDS]  a program that answers as read-sheet does
   independent compare-command ROW SEED COUNT PROGRAM [WORDS] -- COMMAND [WORDS]   the program and `COMMAND sheet`
+  independent compare-flow ROW SEED COUNT -- COMMAND [WORDS]   `COMMAND sheet --flow`, records of up to ROW entries
   independent compare-calls SEED COUNT SERVER            the library's cmm_quantify on generated calls
   independent compare-library SEED COUNT ROW SERVER      its cmm_report with rows of this length, result rows too
   independent compare-library-sheets SEED COUNT SERVER   its reader and writer of sheets
+  independent compare-exports SEED COUNT SERVER          its cmm_read_flow on generated exports
+  independent pattern-sums FIRST COUNT           checksums of all good samples, in blocks of 2^20, 0 to 4095
   independent show-call SEED NUMBER              the call with this number, and the own answer to it
   independent selfcheck                          the own implementation held to document 01's numbers";
 
@@ -98,9 +115,12 @@ fn run(words: &[&str]) -> Option<bool> {
         ["compare-row", row, seed, count, program @ ..] => compare_records(row.parse().ok()?, seed, count, program),
         ["compare-sheets", seed, count, program @ ..] => compare_sheets(seed, count, program),
         ["compare-command", row, seed, count, words @ ..] => compare_command(row, seed, count, words),
+        ["compare-flow", row, seed, count, "--", command @ ..] => compare_flow(row, seed, count, command),
         ["compare-calls", seed, count, server @ ..] => compare_calls(seed, count, server),
         ["compare-library", seed, count, row, server @ ..] => compare_library(seed, count, row, server),
         ["compare-library-sheets", seed, count, server @ ..] => compare_library_sheets(seed, count, server),
+        ["compare-exports", seed, count, server @ ..] => compare_exports(seed, count, server),
+        ["pattern-sums", first, count] => pattern_sums(first.parse().ok()?, count.parse().ok()?),
         ["show-call", seed, number] => Some(show_call(seed.parse().ok()?, number.parse().ok()?)),
         ["selfcheck"] => Some(selfcheck::run()),
         _ => None,
@@ -173,6 +193,15 @@ fn compare_command(row: &str, seed: &str, count: &str, words: &[&str]) -> Option
     Some(summary.conclude("files", count, &compare_command::wanted()))
 }
 
+fn compare_flow(row: &str, seed: &str, count: &str, words: &[&str]) -> Option<bool> {
+    let (row, seed, count) = (row.parse().ok()?, seed.parse().ok()?, count.parse().ok()?);
+    let command = program(words).filter(|_| row >= compare_flow::LEAST_ROW)?.words;
+    let directory = Directory::new().expect("no directory for the files");
+    let judge = |number| compare_flow::judge(seed, number, row, &command, &directory);
+    let summary = compare::compare(count, &judge);
+    Some(summary.conclude_from(compare_flow::ENOUGH, "cases", count, &compare_flow::wanted()))
+}
+
 fn compare_calls(seed: &str, count: &str, server: &[&str]) -> Option<bool> {
     let (seed, count, library) = (seed.parse().ok()?, count.parse().ok()?, Library::new(server)?);
     let summary = compare::compare(count, &|number| compare_calls::judge(seed, number, &library));
@@ -191,6 +220,19 @@ fn compare_library_sheets(seed: &str, count: &str, server: &[&str]) -> Option<bo
     let (seed, count, library) = (seed.parse().ok()?, count.parse().ok()?, Library::new(server)?);
     let ask = |number| compare::ask_sheet(seed, number);
     Some(compare_files(count, &ask, &Sheets { library: &library }, &sheet_kinds_wanted()))
+}
+
+fn compare_exports(seed: &str, count: &str, server: &[&str]) -> Option<bool> {
+    let (seed, count, library) = (seed.parse().ok()?, count.parse().ok()?, Library::new(server)?);
+    let samples = AtomicUsize::new(0);
+    let summary = compare::compare(count, &|number| compare_exports::judge(seed, number, &library, &samples));
+    println!("{} samples", samples.into_inner());
+    Some(summary.conclude("exports", count, &compare_exports::wanted()))
+}
+
+fn pattern_sums(first: u32, count: u32) -> Option<bool> {
+    let are_blocks = first <= pattern_sums::BLOCKS && count <= pattern_sums::BLOCKS - first;
+    are_blocks.then(|| pattern_sums::print(first, count))
 }
 
 fn show_call(seed: u64, number: usize) -> bool {

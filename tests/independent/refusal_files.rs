@@ -122,7 +122,7 @@ fn base(rng: &Rng, devices: usize) -> Record {
     record
 }
 
-fn break_rule(rng: &Rng, record: &mut Record, number: u32) {
+pub fn break_rule(rng: &Rng, record: &mut Record, number: u32) {
     let (_, ways, _) = WAYS[NUMBERS.iter().position(|&other| other == number).unwrap()];
     offend(rng, record, number, rng.below(ways));
 }

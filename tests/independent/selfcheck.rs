@@ -10,7 +10,8 @@ use crate::quantify::quantify;
 use crate::record::{Check, Device, Fuel, Record};
 use crate::rng::Rng;
 use crate::tonnes::{balance, credits, litres, methane_litres, tonnes};
-use crate::{compare, draw, selfcheck_calls, selfcheck_texts, selfcheck_words, sheet};
+use crate::{compare, draw, sheet};
+use crate::{selfcheck_calls, selfcheck_flow, selfcheck_historian, selfcheck_texts, selfcheck_words};
 use std::fmt::Debug;
 
 #[derive(Default)]
@@ -43,6 +44,8 @@ pub fn run() -> bool {
     selfcheck_texts::run(&mut checks);
     selfcheck_calls::run(&mut checks);
     selfcheck_words::run(&mut checks);
+    selfcheck_historian::run(&mut checks);
+    selfcheck_flow::run(&mut checks);
     two_ways(&mut checks);
     println!("selfcheck: {} passed, {} failed", checks.passed, checks.failed);
     checks.failed == 0 && checks.passed > 0

@@ -13,7 +13,7 @@
 
 #include "../../include/cmm.h"
 
-enum { QUANTIFY, REPORT, READ_SHEET, WRITE_SHEET, WORDS = 40 };
+enum { QUANTIFY, REPORT, READ_SHEET, WRITE_SHEET, READ_FLOW, WORDS = 40 };
 
 struct request {
     uint64_t function, size, word[WORDS];
@@ -93,6 +93,7 @@ static uint64_t called(const struct request *r, uint8_t *memory)
         return cmm_read_sheet(ARRAY(uint8_t, 0), w[1], ARRAY(uint64_t, 2), ARRAY(int64_t, 3), ARRAY(uint64_t, 4));
     case WRITE_SHEET:
         return cmm_write_sheet(ARRAY(uint64_t, 0), ARRAY(int64_t, 1), ARRAY(uint8_t, 2), w[3], ARRAY(uint64_t, 4));
+    case READ_FLOW: return cmm_read_flow(ARRAY(uint8_t, 0), w[1], ARRAY(uint16_t, 2), w[3], ARRAY(uint64_t, 4));
     }
     need(0, "no such function");
     return 0;
