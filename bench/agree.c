@@ -7,7 +7,7 @@
 #include <stdlib.h>
 #include <string.h>
 
-static unsigned met[14], outcomes[10];
+static unsigned met[17], outcomes[10];
 
 static void damage_checks(struct record *r)
 {
@@ -219,12 +219,52 @@ static int same_read(unsigned number)
     return same;
 }
 
+/* Patterns on both sides of every border of a reading, and any other. */
+static uint32_t pattern(void)
+{
+    static const uint32_t borders[] = {0, 1, 0x007fffff, 0x00800000, 0x3dcccccc, 0x3dcccccd, 0x3f333333, 0x3f7fffff, 0x3f800000,
+                                       0x453b7fff, 0x453b8000, 0x80000000};
+    static const uint32_t wrong[] = {0x453b8001, 0x7f7fffff, 0x7f800000, 0x7f800001, 0x7fc00000, 0x80000001, 0xbf800000, 0xff800000,
+                                     0xffffffff};
+    if (drawn(200) == 0)
+        return wrong[drawn(sizeof wrong / sizeof *wrong)];
+    return drawn(2) ? borders[drawn(sizeof borders / sizeof *borders)] : drawn(0x453b8001);
+}
+
+static int same_flow(unsigned number)
+{
+    const size_t n = drawn(40), length = CMM_SAMPLE * n + (drawn(8) == 0 ? drawn(2 * CMM_SAMPLE) : 0);
+    struct filling a = filling_new(n), b = filling_new(n);
+    uint8_t *t = malloc(length + 1);
+    int same;
+    if (t == NULL)
+        exit(2);
+    for (size_t i = 0; i < length; i++)
+        t[i] = (uint8_t)drawn(256);
+    for (size_t k = 0; k < n; k++) {
+        const uint32_t w = pattern();
+        t[CMM_SAMPLE * k] = (uint8_t)(drawn(100) == 0 ? 3 + drawn(253) : drawn(4) == 0 ? 1 + drawn(2) : 0);
+        memcpy(t + CMM_SAMPLE * k + 1, &w, 4);
+    }
+    ask_flow(LIBRARY, t, length, 1, &a);
+    ask_flow(HAND, t, length, 1, &b);
+    same = same_filling(&a, &b);
+    met[a.number]++;
+    if (!same)
+        fprintf(stderr, "export %u: library %u at %u, hand-written %u at %u, or another row\n", number, (unsigned)a.number,
+                (unsigned)a.place[0], (unsigned)b.number, (unsigned)b.place[0]);
+    free(t);
+    filling_free(&a);
+    filling_free(&b);
+    return same;
+}
+
 unsigned disagreements(unsigned records)
 {
     unsigned found = 0;
     for (unsigned k = 0; k < records; k++)
-        found += (unsigned)!same_quantify(k) + (unsigned)!same_read(k);
-    printf("# %u small records and %u small record files, answered differently: %u\n# refusals met:", records, records, found);
+        found += (unsigned)!same_quantify(k) + (unsigned)!same_read(k) + (unsigned)!same_flow(k);
+    printf("# %u small records, record files and exports each, answered differently: %u\n# refusals met:", records, found);
     for (size_t k = 1; k < sizeof met / sizeof *met; k++)
         if (met[k] > 0)
             printf(" %u (%u times)", (unsigned)k, met[k]);

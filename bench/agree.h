@@ -2,7 +2,7 @@
 #ifndef AGREE_H
 #define AGREE_H
 
-/* Asks both about so many small records, sound and damaged, and about as many small record files. Gives how many were answered
+/* Asks both about so many small records, sound and damaged, and about as many small record files and exports. Gives how many were answered
  * differently and names each on standard error; says on standard output how often each refusal was met. */
 unsigned disagreements(unsigned records);
 

@@ -6,7 +6,7 @@
  *   bench [..] -o BUCKET WHICH
  *       makes that bucket's data and calls one of them once, for a tool that counts what happens inside the call
  *
- * Quantification is of INTERVALS for each of DEVICES; the record files are of one device, LONG and SHORT intervals. */
+ * Quantification and exports are of INTERVALS for each of DEVICES; the record files are of one device, LONG and SHORT intervals. */
 #define _POSIX_C_SOURCE 200809L
 #include "agree.h"
 #include "both.h"
@@ -17,9 +17,10 @@
 #include <time.h>
 
 enum { SEED = 2015 };
-enum { REALISTIC, DENSE_GAPS, LAST_WRONG, READ_LONG, READ_SHORT, BUCKETS };
+enum { REALISTIC, DENSE_GAPS, LAST_WRONG, READ_LONG, READ_SHORT, FLOW_REALISTIC, FLOW_DENSE_GAPS, BUCKETS };
 
-static const char *const names[BUCKETS] = {"quantify-realistic", "quantify-dense-gaps", "quantify-last-wrong", "read-long", "read-short"};
+static const char *const names[BUCKETS] = {"quantify-realistic", "quantify-dense-gaps", "quantify-last-wrong", "read-long",
+                                           "read-short",         "flow-realistic",      "flow-dense-gaps"};
 
 struct sizes {
     uint32_t intervals, devices, text[2], repetitions, small;
@@ -27,13 +28,15 @@ struct sizes {
 
 /* A bucket's data, and for each implementation arrays of its own. */
 struct bucket {
-    int is_text;
+    int is_text, is_flow;
     struct record record;
     size_t length[SLICES], entries;
     struct answer answer[BOTH];
     uint8_t *text;
     size_t text_length;
     struct reading reading[BOTH];
+    uint8_t *exports;
+    struct filling filling[BOTH];
 };
 
 static struct bucket made(int k, const struct sizes *s)
@@ -41,10 +44,11 @@ static struct bucket made(int k, const struct sizes *s)
     struct bucket b;
     memset(&b, 0, sizeof b);
     draw_from(SEED);
-    b.is_text = k >= READ_LONG;
+    b.is_text = k == READ_LONG || k == READ_SHORT;
+    b.is_flow = k >= FLOW_REALISTIC;
     b.record = b.is_text ? record_new(s->text[k - READ_LONG], 1) : record_new(s->intervals, s->devices);
     b.entries = (size_t)b.record.intervals * b.record.devices;
-    if (k == DENSE_GAPS)
+    if (k == DENSE_GAPS || k == FLOW_DENSE_GAPS)
         fill_dense_gaps(&b.record, 8);
     else
         fill_realistic(&b.record, 1);
@@ -57,9 +61,16 @@ static struct bucket made(int k, const struct sizes *s)
             exit(2);
         b.text_length = record_text(&b.record, b.text);
     }
+    if (b.is_flow) {
+        b.exports = malloc(CMM_SAMPLE * b.entries);
+        if (b.exports == NULL)
+            exit(2);
+        record_exports(&b.record, b.exports);
+    }
     for (int w = 0; w < BOTH; w++) {
         b.answer[w] = answer_new(b.entries);
         b.reading[w] = reading_new(b.entries);
+        b.filling[w] = filling_new(b.entries);
     }
     return b;
 }
@@ -68,15 +79,19 @@ static void unmake(struct bucket *b)
 {
     record_free(&b->record);
     free(b->text);
+    free(b->exports);
     for (int w = 0; w < BOTH; w++) {
         answer_free(&b->answer[w]);
         reading_free(&b->reading[w]);
+        filling_free(&b->filling[w]);
     }
 }
 
 static void ask(struct bucket *b, int which)
 {
-    if (b->is_text)
+    if (b->is_flow)
+        ask_flow(which, b->exports, CMM_SAMPLE * (size_t)b->record.intervals, b->record.devices, &b->filling[which]);
+    else if (b->is_text)
         ask_read(which, b->text, b->text_length, &b->reading[which]);
     else
         ask_quantify(which, &b->record, b->length, &b->answer[which]);
@@ -93,7 +108,10 @@ static uint64_t cpu_ns(void)
 static void describe(int k, const struct bucket *b)
 {
     const struct answer *a = &b->answer[LIBRARY];
-    if (b->is_text)
+    if (b->is_flow)
+        printf("# %s: %u devices, %u samples each, refusal %u\n", names[k], (unsigned)b->record.devices, (unsigned)b->record.intervals,
+               (unsigned)b->filling[LIBRARY].number);
+    else if (b->is_text)
         printf("# %s: one device, %u intervals, %zu bytes, refusal %u\n", names[k], (unsigned)b->record.intervals, b->text_length,
                (unsigned)b->reading[LIBRARY].number);
     else if (a->number > 0)
@@ -118,8 +136,10 @@ static int measured(int k, const struct sizes *s)
             const uint64_t taken = cpu_ns() - before;
             least[w] = taken < least[w] ? taken : least[w];
         }
-    same = b.is_text ? same_reading(&b.reading[LIBRARY], &b.reading[HAND])
-                     : same_answer(&b.answer[LIBRARY], &b.answer[HAND], b.entries);
+    same = b.is_flow ? same_filling(&b.filling[LIBRARY], &b.filling[HAND])
+           : b.is_text
+               ? same_reading(&b.reading[LIBRARY], &b.reading[HAND])
+               : same_answer(&b.answer[LIBRARY], &b.answer[HAND], b.entries);
     describe(k, &b);
     printf("time %s %llu %llu\n", names[k], (unsigned long long)least[LIBRARY], (unsigned long long)least[HAND]);
     if (!same)

@@ -56,6 +56,20 @@ void reading_free(struct reading *a)
     free(a->status);
 }
 
+struct filling filling_new(size_t entries)
+{
+    struct filling a;
+    memset(&a, UNTOUCHED, sizeof a);
+    a.entries = entries;
+    a.flow = untouched(entries * sizeof *a.flow);
+    return a;
+}
+
+void filling_free(struct filling *a)
+{
+    free(a->flow);
+}
+
 void right_lengths(const struct record *r, size_t length[SLICES])
 {
     const size_t d = r->devices, all = r->intervals * d, f = r->fuels;
@@ -79,6 +93,13 @@ void ask_read(int which, const uint8_t *text, size_t length, struct reading *a)
         a->temp, a->rows, a->press, a->rows, a->status, a->rows, a->head, a->line);
 }
 
+void ask_flow(int which, const uint8_t *exports, size_t length, size_t devices, struct filling *a)
+{
+    const size_t n = a->entries / devices;
+    for (size_t d = 0; d < devices; d++)
+        a->number = (which == LIBRARY ? cmm_read_flow : hand_read_flow)(exports + d * length, length, a->flow + d * n, n, a->place);
+}
+
 int same_answer(const struct answer *a, const struct answer *b, size_t entries)
 {
     return a->number == b->number && memcmp(a->at, b->at, sizeof a->at) == 0
@@ -100,4 +121,10 @@ int same_reading(const struct reading *a, const struct reading *b)
            && memcmp(a->temp, b->temp, a->rows * sizeof *a->temp) == 0
            && memcmp(a->press, b->press, a->rows * sizeof *a->press) == 0
            && memcmp(a->status, b->status, a->rows * sizeof *a->status) == 0;
+}
+
+int same_filling(const struct filling *a, const struct filling *b)
+{
+    return a->number == b->number && a->place[0] == b->place[0] && a->entries == b->entries
+           && memcmp(a->flow, b->flow, a->entries * sizeof *a->flow) == 0;
 }

@@ -30,19 +30,31 @@ struct reading {
     uint8_t *status;
 };
 
+/* What reading the exports of some devices answers, the last one's number and place, with the rows that it fills. */
+struct filling {
+    uint64_t number, place[1];
+    size_t entries;
+    uint16_t *flow;
+};
+
 /* Answers with rows of so many entries, every byte of them the same in every new answer, so that an entry that only one of the two
  * writes is found. */
 struct answer answer_new(size_t entries);
 void answer_free(struct answer *a);
 struct reading reading_new(size_t entries);
 void reading_free(struct reading *a);
+struct filling filling_new(size_t entries);
+void filling_free(struct filling *a);
 
 void right_lengths(const struct record *r, size_t length[SLICES]);
 void ask_quantify(int which, const struct record *r, const size_t length[SLICES], struct answer *a);
 void ask_read(int which, const uint8_t *text, size_t length, struct reading *a);
+/* Of each of so many devices the export of that length, one after the other. */
+void ask_flow(int which, const uint8_t *exports, size_t length, size_t devices, struct filling *a);
 
 /* Whether two answers are the same, in rows of so many entries too. */
 int same_answer(const struct answer *a, const struct answer *b, size_t entries);
 int same_reading(const struct reading *a, const struct reading *b);
+int same_filling(const struct filling *a, const struct filling *b);
 
 #endif

@@ -1,4 +1,4 @@
-/* hand.h: the work of cmm_quantify and cmm_read_record once more, written by hand in C from document 01 and proved by nothing.
+/* hand.h: the work of cmm_quantify, cmm_read_record and cmm_read_flow once more, written by hand in C from document 01 and proved by nothing.
  * bench/run measures the proved library against it. Arguments, answers and what is written are those of include/cmm.h. */
 #ifndef HAND_H
 #define HAND_H
@@ -33,5 +33,7 @@ uint64_t hand_read_record(
     uint32_t *press, size_t press_length,
     uint8_t *status, size_t status_length,
     uint32_t head[4], uint64_t line[1]);
+
+uint64_t hand_read_flow(const uint8_t *t, size_t t_length, uint16_t *flow, size_t flow_length, uint64_t place[1]);
 
 #endif

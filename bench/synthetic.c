@@ -3,6 +3,7 @@
 
 #include <stdio.h>
 #include <stdlib.h>
+#include <string.h>
 
 static uint64_t state;
 
@@ -206,4 +207,15 @@ size_t record_text(const struct record *r, uint8_t *text)
         }
     }
     return (size_t)(p - (char *)text);
+}
+
+void record_exports(const struct record *r, uint8_t *samples)
+{
+    for (size_t i = 0; i < (size_t)r->intervals * r->devices; i++) {
+        uint8_t *sample = samples + CMM_SAMPLE * i;
+        const float x = (float)r->flow[i] / 10;
+        const uint32_t any = drawn(UINT32_MAX);
+        sample[0] = (uint8_t)(r->flow[i] == CMM_FLOW_MISSING ? 1 + drawn(2) : 0);
+        memcpy(sample + 1, sample[0] == 0 ? (const void *)&x : (const void *)&any, 4);
+    }
 }

@@ -29,6 +29,10 @@ void fill_realistic(struct record *r, uint32_t often);
  * attested. `phase` is how far CH4's gaps lie behind those of flow. */
 void fill_dense_gaps(struct record *r, uint32_t phase);
 
+/* The exports of a record's flow, a sample for each entry, which has room for CMM_SAMPLE bytes each: the binary32 nearest to a flow,
+ * and uncertain or bad with any bytes where it is missing. */
+void record_exports(const struct record *r, uint8_t *samples);
+
 /* The record file, at the start of `text`, which has room for CMM_RECORD_BYTES(intervals * devices); gives its length. */
 size_t record_text(const struct record *r, uint8_t *text);
 

@@ -4,25 +4,32 @@
 #include <stdlib.h>
 #include <string.h>
 
-#include "../include/cmm.h"
 #include "lines.h"
 #include "memory.h"
 #include "say.h"
 
+uint64_t record_read(const struct text *t, struct record *r, struct rows *w, uint64_t line[1])
+{
+    size_t n = w->entries;
+
+    return cmm_read_record(t->bytes, t->length, r->quantity, r->factor, r->kinds, r->counts, r->positions, r->drifts, w->flow, n,
+                           w->content, n, w->temp, n, w->press, n, w->status, n, r->head, line);
+}
+
 /* Intervals times devices, or 0. The library is asked first, with rows of no entry: 13 says that the first two lines are right. */
 static size_t entries_of(const struct text *t)
 {
-    uint32_t fuel[2][64], kinds[16], counts[32], positions[1024], head[4], none32;
-    int32_t drifts[1024];
-    uint16_t none16[2];
-    int16_t none_signed;
-    uint8_t none8;
+    uint32_t none;
+    struct rows nothing = { .entries = 0, .press = &none };
+    struct record r;
     uint64_t line[1];
     struct walk w;
     size_t intervals;
 
-    if (cmm_read_record(t->bytes, t->length, fuel[0], fuel[1], kinds, counts, positions, drifts, &none16[0], 0, &none16[1], 0,
-                        &none_signed, 0, &none32, 0, &none8, 0, head, line) != 13)
+    nothing.flow = nothing.content = (uint16_t *)(void *)&none; /* a pointer that is not null, which nothing is read or written by */
+    nothing.temp = (int16_t *)(void *)&none;
+    nothing.status = (uint8_t *)&none;
+    if (record_read(t, &r, &nothing, line) != 13)
         return 0;
     walk_start(&w, t->bytes, t->length);
     intervals = (size_t)line_value(&w);

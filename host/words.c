@@ -1,8 +1,11 @@
 #include "words.h"
 
 #include <stdio.h>
+#include <string.h>
 
+#include "../include/cmm.h"
 #include "lines.h"
+#include "say.h"
 
 /* What is wrong, by the refusal's number: the one table of these words (tests/check_said holds it to crates/refusals). */
 static const struct {
@@ -22,6 +25,9 @@ static const struct {
     { 11, "the buffer is too short for the sheet" },
     { 12, "the line is wrong" },
     { 13, "the record has more entries than there is room for" },
+    { 14, "the export has the wrong length" },
+    { 15, "a sample's quality is unknown" },
+    { 16, "a good sample's reading is out of range" },
 };
 
 /* A wrong line is shown so far; one that is longer than any may be (12.5) is not said to lack its end. */
@@ -172,4 +178,68 @@ void say_refusal(const struct text *record, const struct refusal *r, const struc
     fputs("; ", stderr);
     say_right(&w, r);
     fputc('\n', stderr);
+}
+
+int put_refusal(const struct refusal *r)
+{
+    char text[128];
+
+    snprintf(text, sizeof text, "refusal=%lu\ndevice=%lu\nplace=%lu\n", r->number, r->device, r->place);
+    return put_text(text) == YES ? NO : TROUBLE;
+}
+
+/* The binary32 of a sample, low byte first. */
+static float reading(const uint8_t *sample)
+{
+    uint32_t bits = sample[1] | (uint32_t)sample[2] << 8 | (uint32_t)sample[3] << 16 | (uint32_t)sample[4] << 24;
+    float x;
+
+    memcpy(&x, &bits, sizeof x);
+    return x;
+}
+
+/* Nine digits tell every binary32 from any other. */
+static void say_sample(const uint8_t *sample, unsigned long number)
+{
+    float x = reading(sample);
+
+    if (number == 15)
+        fprintf(stderr, "%u", sample[0]);
+    else if (x != x)
+        fputs("nan", stderr);
+    else
+        fprintf(stderr, "%.9g", x);
+}
+
+void say_export(const struct text *export, const struct refusal *r, unsigned long device, size_t intervals, const struct moment *start)
+{
+    size_t right = CMM_SAMPLE * intervals;
+
+    fprintf(stderr, "cmm: %s: %s: ", export->name, wrong(r->number));
+    if (r->number == 14) {
+        fprintf(stderr, export->length > right ? "more than %zu bytes" : "%zu bytes", export->length > right ? right : export->length);
+        fprintf(stderr, " (device %lu); %zu bytes are right, %d for each of %zu intervals\n", device, right, CMM_SAMPLE, intervals);
+        return;
+    }
+    say_sample(export->bytes + CMM_SAMPLE * r->place, r->number);
+    fprintf(stderr, " (device %lu, interval %lu", device, r->place);
+    say_time(start, r->place);
+    fprintf(stderr, ", byte %lu); ", CMM_SAMPLE * r->place);
+    if (r->number == 15)
+        fprintf(stderr, "0 to %d is right, for good, uncertain, bad\n", CMM_QUALITY_MOST);
+    else
+        fprintf(stderr, "0 to %d is right, in m3\n", CMM_READING_MOST);
+}
+
+void say_flow_twice(const struct text *record, unsigned long device, const char *export, const struct moment *start)
+{
+    struct walk w;
+
+    walk_start(&w, record->bytes, record->length);
+    while (w.due != FLOW || w.device != device || line_empty(&w))
+        walk_on(&w);
+    fprintf(stderr, "cmm: %s:%zu: the flow is given twice: ", record->name, w.number);
+    say_line(&w, 0);
+    say_where(&w, start);
+    fprintf(stderr, "; flow= is right where %s has the device's flow\n", export);
 }

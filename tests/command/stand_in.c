@@ -69,3 +69,36 @@ size_t cmm_report(
     memcpy(out, text, length);
     return length;
 }
+
+uint64_t cmm_read_flow(const uint8_t *t, size_t t_length, uint16_t *flow, size_t flow_length, uint64_t place[1])
+{
+    return hand_read_flow(t, t_length, flow, flow_length, place);
+}
+
+uint64_t cmm_quantify(
+    uint32_t intervals, uint32_t devices, uint32_t mine, const uint32_t *kinds, size_t kinds_length, const uint32_t *counts,
+    size_t counts_length, const uint32_t *positions, size_t positions_length, const int32_t *drifts, size_t drifts_length,
+    const uint16_t *flow, size_t flow_length, const uint16_t *content, size_t content_length, const int16_t *temp, size_t temp_length,
+    const uint32_t *press, size_t press_length, const uint8_t *status, size_t status_length, const uint32_t *quantity,
+    size_t quantity_length, const uint32_t *factor, size_t factor_length, uint8_t *outcome, size_t outcome_length,
+    uint16_t *flow_used, size_t flow_used_length, uint16_t *content_used, size_t content_used_length,
+    uint64_t accounts[CMM_ACCOUNTS], uint64_t amounts[CMM_AMOUNTS], int64_t balances[CMM_BALANCES], uint64_t at[2])
+{
+    return hand_quantify(intervals, devices, mine, kinds, kinds_length, counts, counts_length, positions, positions_length, drifts,
+                         drifts_length, flow, flow_length, content, content_length, temp, temp_length, press, press_length, status,
+                         status_length, quantity, quantity_length, factor, factor_length, outcome, outcome_length, flow_used,
+                         flow_used_length, content_used, content_used_length, accounts, amounts, balances, at);
+}
+
+/* For the command, whose buffer is never too short. */
+uint64_t cmm_write_sheet(const uint64_t amounts[CMM_AMOUNTS], const int64_t balances[CMM_BALANCES], uint8_t *buf, size_t buf_length,
+                         uint64_t size[1])
+{
+    char text[CMM_TEXT_MOST + 1];
+
+    size[0] = write_sheet(amounts, balances, text);
+    if (size[0] > buf_length)
+        return 11;
+    memcpy(buf, text, size[0]);
+    return 0;
+}
