@@ -1,5 +1,6 @@
-/* faults: the system's calls that the command makes, with one of them going wrong as CMM_FAULT says. Linked with -Wl,--wrap=CALL for
- * each of them (tests/check_command). CMM_FAULT_FILE is the file that changes while it is read. */
+/* faults: the system's calls that the command makes, with one of them going wrong as CMM_FAULT says; memory-2 is the second request for
+ * memory, and so for read and statx. Linked with -Wl,--wrap=CALL for each of them (tests/check_command). CMM_FAULT_FILE is the file
+ * that changes while it is read. */
 #define _GNU_SOURCE
 #include <errno.h>
 #include <fcntl.h>
@@ -20,6 +21,14 @@ static int is(const char *fault)
     const char *set = getenv("CMM_FAULT");
 
     return set && strcmp(set, fault) == 0;
+}
+
+static int is_number(const char *what, int call)
+{
+    char fault[32];
+
+    snprintf(fault, sizeof fault, "%s-%d", what, call);
+    return is(fault);
 }
 
 static int fail(int reason)
@@ -57,7 +66,7 @@ void *__wrap_realloc(void *old, size_t size)
     if (call++ == 0 && is("count-memory"))
         atexit(tell_memory);
     asked += size;
-    return (call == 1 && is("memory-1")) || (call == 2 && is("memory-2")) ? NULL : __real_realloc(old, size);
+    return is_number("memory", call) ? NULL : __real_realloc(old, size);
 }
 
 ssize_t __wrap_read(int file, void *to, size_t size)
@@ -65,7 +74,7 @@ ssize_t __wrap_read(int file, void *to, size_t size)
     static int call;
 
     ++call;
-    if (call == 2 && is("read-fails"))
+    if (is_number("read", call))
         return fail(EIO);
     if (is("read-slow") && call % 2 == 0)
         return fail(EINTR);
@@ -91,8 +100,7 @@ int __wrap_statx(int at, const char *path, int flags, unsigned mask, struct stat
 {
     static int call;
 
-    ++call;
-    return (call == 1 && is("statx-1")) || (call == 2 && is("statx-2")) ? fail(EIO) : __real_statx(at, path, flags, mask, s);
+    return is_number("statx", ++call) ? fail(EIO) : __real_statx(at, path, flags, mask, s);
 }
 
 int __wrap_close(int file)
