@@ -2,19 +2,30 @@
 -- The order of test is not the order of numbers: each call's own list of steps has it.
 -- Assumes nothing.
 use Prim.Native.Nat.{ℕ}
-use mathlib.Core.Path.{_≡_, refl}
+use mathlib.Core.Path.{_≡_, refl, sym, ap, _∙_}
 use mathlib.Core.Bool.{Bool, true, false}
 use mathlib.Core.List.{List, [], _∷_}
+use native.Mathlib.Omega.{arith}
 use lib.Dec.{eqb}
+use Rattle.refusals.specs.declared.Column.{Column}
+use Rattle.refusals.specs.declared.Column.the-variants.{Flow, Content, Temp, Press, Status}
 use Rattle.refusals.specs.declared.Refusal.{Refusal}
-use Rattle.refusals.specs.declared.Refusal.the-variants.{Intervals, Devices, Lengths, Mine, Kind, Misplaced, Check, Reading, Fuel, NoSheet, ShortBuffer}
-use Rattle.refusals.specs.declared.Refusal.the-variants.{Line, Room, ExportLength, SampleQuality, SampleReading}
+use Rattle.refusals.specs.declared.Refusal.the-variants.{Intervals, Devices, Lengths, Mine, Kind, Misplaced, Check, Fuel, NoSheet, ShortBuffer}
+use Rattle.refusals.specs.declared.Refusal.the-variants.{Line, Room, ExportLength, SampleQuality, SampleReading, Reading}
 use Rattle.refusals.specs.declared.Verdict.{Verdict}
 use Rattle.refusals.specs.declared.Verdict.the-variants.{Clean, Refused}
 use Rattle.refusals.specs.declared.Told.{Told}
 
 abbrev pub told : ℕ → ℕ → ℕ → Told
 told number device place = record { number = number; device = device; place = place }
+
+-- rules 4.17 to 4.21: a wrong reading is refused by the number of its series
+abbrev pub readingNumber : Column → ℕ
+readingNumber Flow = 17
+readingNumber Content = 18
+readingNumber Temp = 19
+readingNumber Press = 20
+readingNumber Status = 21
 
 abbrev pub toldOf : Refusal → Told
 toldOf Intervals = told 1 0 0
@@ -24,7 +35,6 @@ toldOf Mine = told 4 0 0
 toldOf (Kind device) = told 5 device 0
 toldOf (Misplaced device) = told 6 device 0
 toldOf (Check device check) = told 7 device check
-toldOf (Reading device interval) = told 8 device interval
 toldOf (Fuel line) = told 9 0 line
 toldOf (NoSheet offset) = told 10 0 offset
 toldOf (ShortBuffer needed) = told 11 0 needed
@@ -33,6 +43,7 @@ toldOf Room = told 13 0 0
 toldOf ExportLength = told 14 0 0
 toldOf (SampleQuality sample) = told 15 0 sample
 toldOf (SampleReading sample) = told 16 0 sample
+toldOf (Reading column device interval) = told (readingNumber column) device interval
 
 -- where nothing is refused
 abbrev pub nothing : Told
@@ -45,8 +56,9 @@ toldBy (Refused r) = toldOf r
 -- every refusal, in the table's order; what a refusal is given with does not matter here
 abbrev all : List Refusal
 all =
-    Intervals ∷ Devices ∷ Lengths ∷ Mine ∷ Kind 0 ∷ Misplaced 0 ∷ Check 0 0 ∷ Reading 0 0 ∷ Fuel 0
-    ∷ NoSheet 0 ∷ ShortBuffer 0 ∷ Line 0 ∷ Room ∷ ExportLength ∷ SampleQuality 0 ∷ SampleReading 0 ∷ []
+    Intervals ∷ Devices ∷ Lengths ∷ Mine ∷ Kind 0 ∷ Misplaced 0 ∷ Check 0 0 ∷ Fuel 0
+    ∷ NoSheet 0 ∷ ShortBuffer 0 ∷ Line 0 ∷ Room ∷ ExportLength ∷ SampleQuality 0 ∷ SampleReading 0
+    ∷ Reading Flow 0 0 ∷ Reading Content 0 0 ∷ Reading Temp 0 0 ∷ Reading Press 0 0 ∷ Reading Status 0 0 ∷ []
 
 lacks : ℕ → List Refusal → Bool
 lacks number [] = true
@@ -75,7 +87,6 @@ listed Mine = refl
 listed (Kind device) = refl
 listed (Misplaced device) = refl
 listed (Check device check) = refl
-listed (Reading device interval) = refl
 listed (Fuel line) = refl
 listed (NoSheet offset) = refl
 listed (ShortBuffer needed) = refl
@@ -84,3 +95,24 @@ listed Room = refl
 listed ExportLength = refl
 listed (SampleQuality sample) = refl
 listed (SampleReading sample) = refl
+listed (Reading Flow device interval) = refl
+listed (Reading Content device interval) = refl
+listed (Reading Temp device interval) = refl
+listed (Reading Press device interval) = refl
+listed (Reading Status device interval) = refl
+
+-- rule 4.8: 8, once any wrong reading's, is given up: no refusal has it, and so no verdict
+eight-lacks : lacks 8 all ≡ true
+unfolding lacks
+eight-lacks = refl
+
+pub never-eight : (r : Refusal) → toldOf r .number ≡ 8 → ⊥
+never-eight r e =
+    let has : lacks 8 all ≡ false = ap (λ (n : ℕ). lacks n all) (sym e) ∙ listed r in
+    let lack : lacks 8 all ≡ true = eight-lacks in
+    let z : _≡_ {A = ℕ} 0 1 = cc in
+    omega arith
+
+pub verdict-never-eight : (v : Verdict) → toldBy v .number ≡ 8 → ⊥
+verdict-never-eight Clean e = omega arith
+verdict-never-eight (Refused r) e = never-eight r e

@@ -1,6 +1,15 @@
 // What any call refuses: the one table of refusals, below every crate that gives one. A number that is retired is never used again.
 ghost use mathlib.Core.Path.{_≡_};
-ghost use Rattle.refusals.specs.Table.{toldOf, toldBy};
+ghost use Rattle.refusals.specs.Table.{readingNumber, toldOf, toldBy};
+
+// Which of an interval's readings: the series that it stands in.
+pub enum Column {
+    Flow,
+    Content,
+    Temp,
+    Press,
+    Status,
+}
 
 // What is refused, with the device and the place where the rules name one.
 pub enum Refusal {
@@ -11,7 +20,6 @@ pub enum Refusal {
     Kind(usize),
     Misplaced(usize),
     Check(usize, usize),
-    Reading(usize, usize),
     Fuel(usize),
     NoSheet(usize),
     ShortBuffer(usize),
@@ -20,6 +28,7 @@ pub enum Refusal {
     ExportLength,
     SampleQuality(usize),
     SampleReading(usize),
+    Reading(Column, usize, usize),
 }
 
 // Nothing is wrong, or the first refusal.
@@ -47,6 +56,21 @@ impl Told {
     }
 }
 
+impl Column {
+    // Ruled out: one number for all; the pressure's for the temperature's.
+    pub fn number(self) -> u64
+        ensures { λ r. ⌜ r ≡ readingNumber self ⌝ }
+    {
+        match self {
+            Column::Flow => 17,
+            Column::Content => 18,
+            Column::Temp => 19,
+            Column::Press => 20,
+            Column::Status => 21,
+        }
+    }
+}
+
 impl Refusal {
     // Ruled out: 6 for 5; the device given as the place.
     pub fn told(self) -> Told
@@ -60,7 +84,6 @@ impl Refusal {
             Refusal::Kind(device) => Told::at(5, device, 0),
             Refusal::Misplaced(device) => Told::at(6, device, 0),
             Refusal::Check(device, check) => Told::at(7, device, check),
-            Refusal::Reading(device, interval) => Told::at(8, device, interval),
             Refusal::Fuel(line) => Told::at(9, 0, line),
             Refusal::NoSheet(offset) => Told::at(10, 0, offset),
             Refusal::ShortBuffer(needed) => Told::at(11, 0, needed),
@@ -69,6 +92,11 @@ impl Refusal {
             Refusal::ExportLength => Told::at(14, 0, 0),
             Refusal::SampleQuality(sample) => Told::at(15, 0, sample),
             Refusal::SampleReading(sample) => Told::at(16, 0, sample),
+            Refusal::Reading(column, device, interval) => Told::at(
+                column.number(),
+                device,
+                interval,
+            ),
         }
     }
 }

@@ -1,7 +1,8 @@
 -- Each arm gives its line of the table.
+use Prim.Native.Nat.{ℕ}
 use mathlib.Core.Path.{sym, ap, _∙_}
 use borrow.Author.Needs.{needs}
-use Rattle.refusals.specs.Table.{toldOf}
+use Rattle.refusals.specs.Table.{told, toldOf}
 use Rattle.refusals.proofs.Refusal.told.Statement.{statement}
 use Rattle.refusals.proofs.Refusal.told.Tie as tie
 
@@ -71,20 +72,20 @@ enum-known-self-7 c = search needs
 at-requires-11 : tie.Need-at-requires-11
 at-requires-11 c κs = search needs
 
-enum-known-self-8 : tie.Need-enum-known-self-8
-enum-known-self-8 c = search needs
+enum-told-5 : tie.Need-enum-told-5
+enum-told-5 c = search needs
 
 at-requires-12 : tie.Need-at-requires-12
 at-requires-12 c κs = search needs
 
-enum-told-5 : tie.Need-enum-told-5
-enum-told-5 c = search needs
+enum-told-6 : tie.Need-enum-told-6
+enum-told-6 c = search needs
 
 at-requires-13 : tie.Need-at-requires-13
 at-requires-13 c κs = search needs
 
-enum-told-6 : tie.Need-enum-told-6
-enum-told-6 c = search needs
+enum-known-self-8 : tie.Need-enum-known-self-8
+enum-known-self-8 c = search needs
 
 at-requires-14 : tie.Need-at-requires-14
 at-requires-14 c κs = search needs
@@ -97,6 +98,9 @@ at-requires-15 c κs = search needs
 
 enum-known-self-10 : tie.Need-enum-known-self-10
 enum-known-self-10 c = search needs
+
+number-requires : tie.Need-number-requires
+number-requires c κs = search needs
 
 at-requires-16 : tie.Need-at-requires-16
 at-requires-16 c κs = search needs
@@ -135,19 +139,21 @@ returns-11 : tie.Need-returns-11
 returns-11 c = c .at11 .ensures ∙ ap toldOf (sym (c .before .before .self7 .given .1))
 
 returns-12 : tie.Need-returns-12
-returns-12 c = c .at12 .ensures ∙ ap toldOf (sym (c .before .before .self8 .given .1))
+returns-12 c = c .at12 .ensures ∙ search needs
 
 returns-13 : tie.Need-returns-13
 returns-13 c = c .at13 .ensures ∙ search needs
 
 returns-14 : tie.Need-returns-14
-returns-14 c = c .at14 .ensures ∙ search needs
+returns-14 c = c .at14 .ensures ∙ ap toldOf (sym (c .before .before .self8 .given .1))
 
 returns-15 : tie.Need-returns-15
 returns-15 c = c .at15 .ensures ∙ ap toldOf (sym (c .before .before .self9 .given .1))
 
 returns-16 : tie.Need-returns-16
-returns-16 c = c .at16 .ensures ∙ ap toldOf (sym (c .before .before .self10 .given .1))
+returns-16 c =
+    let x = c .before .before .before .self10 .given in
+    c .at16 .ensures ∙ ap (λ (n : ℕ). told n (x .0 .1 .0) (x .0 .1 .1 .0)) (c .before .number .ensures) ∙ ap toldOf (sym (x .1))
 
 pub told-spec : {M : Type 1} → statement M
 told-spec =
@@ -175,15 +181,16 @@ told-spec =
     at-requires-10
     enum-known-self-7
     at-requires-11
-    enum-known-self-8
-    at-requires-12
     enum-told-5
-    at-requires-13
+    at-requires-12
     enum-told-6
+    at-requires-13
+    enum-known-self-8
     at-requires-14
     enum-known-self-9
     at-requires-15
     enum-known-self-10
+    number-requires
     at-requires-16
     returns
     returns-2
