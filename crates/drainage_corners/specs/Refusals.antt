@@ -6,7 +6,8 @@ use mathlib.Core.List.{List, [], _∷_, _++_}
 use lib.IntN.{pos}
 use lib.ListN.{replicate}
 use Rattle.refusals.specs.declared.Refusal.{Refusal}
-use Rattle.refusals.specs.declared.Refusal.the-variants.{Intervals, Devices, Lengths, Mine, Kind, Misplaced, Check, Reading, Fuel}
+use Rattle.refusals.specs.declared.Refusal.the-variants.{Intervals, Devices, Lengths, Mine, Kind, Misplaced, Check, Fuel, Reading}
+use Rattle.refusals.specs.declared.Column.the-variants.{Flow, Content, Temp, Press, Status}
 use Rattle.refusals.specs.declared.Verdict.the-variants.{Clean, Refused}
 use Rattle.refusals.specs.Table.{toldOf}
 use Rattle.steps.specs.Step.{verdictOf}
@@ -23,11 +24,13 @@ number r = toldOf r .number
 numbers : List ℕ
 numbers =
     number Intervals ∷ number Devices ∷ number Lengths ∷ number Mine ∷ number (Kind 1) ∷ number (Misplaced 1) ∷ number (Check 1 2)
-    ∷ number (Reading 1 2) ∷ number (Fuel 2) ∷ []
+    ∷ number (Reading Flow 1 2) ∷ number (Reading Content 1 2) ∷ number (Reading Temp 1 2) ∷ number (Reading Press 1 2)
+    ∷ number (Reading Status 1 2) ∷ number (Fuel 2) ∷ []
 
-one-to-nine : numbers ≡ 1 ∷ 2 ∷ 3 ∷ 4 ∷ 5 ∷ 6 ∷ 7 ∷ 8 ∷ 9 ∷ []
+-- in the order of rule 5.1
+numbers-are : numbers ≡ 1 ∷ 2 ∷ 3 ∷ 4 ∷ 5 ∷ 6 ∷ 7 ∷ 17 ∷ 18 ∷ 19 ∷ 20 ∷ 21 ∷ 9 ∷ []
 unfolding numbers number
-one-to-nine = refl
+numbers-are = refl
 
 -- rule 5.3: nothing is wrong with the calls that rows and figures are computed on, a check at N (rule 3.8) among them
 right : (judged worked ≡ Clean) × (judged injected ≡ Clean) × (judged (stopped (1 ∷ []) (1 ∷ [])) ≡ Clean) × (judged (gapped 16) ≡ Clean)

@@ -1,0 +1,60 @@
+-- No call's answer has the number 8, which is given up (rule 4.8), and no exported function gives it.
+-- Assumes nothing.
+use Prim.Native.Nat.{ℕ}
+use mathlib.Core.Path.{_≡_, sym, _∙_}
+use mathlib.Core.List.{List}
+use native.Mathlib.Omega.{arith}
+use Rattle.refusals.specs.Table.{never-eight, verdict-never-eight}
+use Rattle.drainage_judge.specs.Call.{Call}
+use Rattle.drainage_devices.specs.Devices.{Results}
+use Rattle.figures.specs.declared.Figures.{Figures}
+use Rattle.drainage.specs.Promise.{toldIn}
+use Rattle.drainage.specs.declared.Answer.{Answer}
+use Rattle.drainage.specs.declared.Answer.the-variants as Answer
+use Rattle.sheet_text.specs.Write as Write
+use Rattle.sheet_text.specs.Read as Read
+use Rattle.sheet_text.specs.declared.WriteAnswer.{WriteAnswer}
+use Rattle.sheet_text.specs.declared.WriteAnswer.the-variants as WriteAnswer
+use Rattle.sheet_text.specs.declared.ReadAnswer.{ReadAnswer}
+use Rattle.sheet_text.specs.declared.ReadAnswer.the-variants as ReadAnswer
+use Rattle.drainage_record_form.specs.Rows as Record
+use Rattle.drainage_record.specs.Read as Reader
+use Rattle.drainage_record.specs.declared.ReadAnswer as RecordType
+use Rattle.drainage_record.specs.declared.ReadAnswer.the-variants as RecordAnswer
+use Rattle.cmm.specs.Exported.{Arrays, Quantified, SheetWritten, SheetRead, RecordRead, FlowRead}
+
+-- ---- of each answer that is an enum: three zeros, or a refusal's
+
+pub quantify-never-eight : (a : Answer) → toldIn a .number ≡ 8 → ⊥
+quantify-never-eight (Answer.Accepted f) e = omega arith
+quantify-never-eight (Answer.Refused r) e = never-eight r e
+
+pub write-never-eight : (a : WriteAnswer) → Write.toldIn a .number ≡ 8 → ⊥
+write-never-eight (WriteAnswer.Written n) e = omega arith
+write-never-eight (WriteAnswer.Refused r) e = never-eight r e
+
+pub read-never-eight : (a : ReadAnswer) → Read.toldIn a .number ≡ 8 → ⊥
+read-never-eight (ReadAnswer.Sheet f) e = omega arith
+read-never-eight (ReadAnswer.Refused r) e = never-eight r e
+
+pub record-never-eight : (a : RecordType.ReadAnswer) → Reader.toldIn a .number ≡ 8 → ⊥
+record-never-eight (RecordAnswer.Record h) e = omega arith
+record-never-eight (RecordAnswer.Refused r) e = never-eight r e
+
+-- ---- of each exported function that gives a number
+
+module _ (n : ℕ) (e : n ≡ 8) where
+  pub quantified-gives : (c : Call) (before after : Results) (old new : Arrays) (at : List ℕ) → Quantified c before after old new at n → ⊥
+  quantified-gives c before after old new at x = quantify-never-eight (x .answer) (sym (x .told) ∙ e)
+
+  pub written-gives : (f : Figures) (old new size : List ℕ) → SheetWritten f old new size n → ⊥
+  written-gives f old new size x = write-never-eight (x .answer) (sym (x .told) ∙ e)
+
+  pub sheet-read-gives : (t : List ℕ) (old new : Arrays) (offset : List ℕ) → SheetRead t old new offset n → ⊥
+  sheet-read-gives t old new offset x = read-never-eight (x .answer) (sym (x .told) ∙ e)
+
+  pub record-read-gives : (t : List ℕ) (before after : Record.Rows) (old new line : List ℕ) → RecordRead t before after old new line n → ⊥
+  record-read-gives t before after old new line x = record-never-eight (x .answer) (sym (x .told) ∙ e)
+
+  pub flow-read-gives : (t before after at : List ℕ) → FlowRead t before after at n → ⊥
+  flow-read-gives t before after at x = verdict-never-eight (x .answer) (sym (x .told) ∙ e)
