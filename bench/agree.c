@@ -7,7 +7,7 @@
 #include <stdlib.h>
 #include <string.h>
 
-static unsigned met[17], outcomes[10];
+static unsigned met[22], outcomes[10];
 
 static void damage_checks(struct record *r)
 {

@@ -19,7 +19,6 @@ static const struct {
     { 5, "there is no such kind of device" },
     { 6, "pipeline injection is not for an underground mine" },
     { 7, "a check is wrong" },
-    { 8, "a reading is out of range" },
     { 9, "a fuel line is out of range" },
     { 10, "the text is no sheet" },
     { 11, "the buffer is too short for the sheet" },
@@ -28,6 +27,11 @@ static const struct {
     { 14, "the export has the wrong length" },
     { 15, "a sample's quality is unknown" },
     { 16, "a good sample's reading is out of range" },
+    { 17, "the flow is out of range" },
+    { 18, "the CH4 content is out of range" },
+    { 19, "the temperature is out of range" },
+    { 20, "the pressure is out of range" },
+    { 21, "the status is out of range" },
 };
 
 /* A wrong line is shown so far; one that is longer than any may be (12.5) is not said to lack its end. */
@@ -55,8 +59,12 @@ static int is_meant(const struct walk *w, const struct refusal *r)
     case 5:
     case 6: return w->due == KIND && own;
     case 7: return (w->due == AT || w->due == DRIFT) && offends && !line_in_range(w);
-    case 8: return w->due >= FLOW && w->due <= STATUS && offends && !line_in_range(w);
     case 9: return (w->due == QUANTITY || w->due == FACTOR) && w->entry == r->place && !line_in_range(w);
+    case 17: return w->due == FLOW && offends;
+    case 18: return w->due == CH4 && offends;
+    case 19: return w->due == TEMP && offends;
+    case 20: return w->due == PRESS && offends;
+    case 21: return w->due == STATUS && offends;
     default: return w->number == r->place;
     }
 }
@@ -64,7 +72,7 @@ static int is_meant(const struct walk *w, const struct refusal *r)
 /* The line that the refusal speaks of. Gives 0 where it speaks of none. */
 static int find(const struct text *record, const struct refusal *r, struct walk *w)
 {
-    if (r->number == 3 || r->number == 10 || r->number == 11 || r->number > 12)
+    if (r->number == 3 || r->number == 10 || r->number == 11 || (r->number > 12 && r->number < 17))
         return 0;
     for (walk_start(w, record->bytes, record->length); !is_meant(w, r); walk_on(w))
         if (w->due == KEYS || w->bytes == w->end)

@@ -29,7 +29,6 @@
  *    5   a kind not in 1 .. 6                                            cmm_quantify
  *    6   kind 6 underground                                              cmm_quantify
  *    7   a check's count, position or drift is wrong                     cmm_quantify
- *    8   a reading is neither in its range nor its missing mark          cmm_quantify
  *    9   more than 64 fuel lines, or a fuel number above its range       cmm_quantify
  *   10   the text is no sheet                                            cmm_read_sheet
  *   11   the buffer is too short for the sheet                           cmm_write_sheet
@@ -38,8 +37,15 @@
  *   14   the export is not five times as long as the row                 cmm_read_flow
  *   15   a sample's quality is not 0, 1 or 2                             cmm_read_flow
  *   16   a good sample's reading is no number, below 0 or above 3,000    cmm_read_flow
+ *   17   a flow is neither in its range nor its missing mark             cmm_quantify
+ *   18   a CH4 content is neither in its range nor its missing mark      cmm_quantify
+ *   19   a temperature is neither in its range nor its missing mark      cmm_quantify
+ *   20   a pressure is neither in its range nor its missing mark         cmm_quantify
+ *   21   a status is not in its range                                    cmm_quantify
  *
- * cmm_quantify tests 1 to 9 in this order and gives the first that applies. cmm_read_flow tests 14 and then sample after sample.
+ * cmm_quantify tests 1 to 7, then 17 to 21, then 9, and gives the first that applies. 17 to 21 are one test: of the first device and
+ * interval that has a wrong reading the first wrong one, in the order of these numbers, is given. 8 was any wrong reading's up to
+ * version 3 and is never given again. cmm_read_flow tests 14 and then sample after sample.
  */
 #ifndef CMM_H
 #define CMM_H
@@ -150,9 +156,9 @@ uint32_t cmm_version(void);
  *                 to N, destroyed and uncombusted litres to the methane's. The entries past D accounts stay as they are.
  *   amounts, balances   written: the sheet's figures
  *   at            written, always: the device and the place of what is refused, 0 and 0 where nothing is. The place is the interval
- *                 for 8, the entry for 7 and 9 (32 or 64 for a wrong count), else 0. The device is 0 for 1 to 4 and for 9.
+ *                 for 17 to 21, the entry for 7 and 9 (32 or 64 for a wrong count), else 0. The device is 0 for 1 to 4 and for 9.
  *
- * Gives the refusal's number, 1 to 9, or 0. A refused call writes `at` and nothing else. */
+ * Gives the refusal's number, 1 to 7, 9 or 17 to 21, or 0. A refused call writes `at` and nothing else. */
 uint64_t cmm_quantify(
     uint32_t intervals, uint32_t devices, uint32_t mine,
     const uint32_t *kinds, size_t kinds_length,

@@ -225,7 +225,7 @@ static void check_checks(void)
     c.positions[96] = c.positions[97] = 3;
     c.drifts[96] = c.drifts[97] = 0;
     c.flow[0] = 40000;
-    refused("of two at one place the later; 7 before 8", c, 7, 1, 1);
+    refused("of two at one place the later; 7 before 17", c, 7, 1, 1);
 }
 
 static void check_readings(void)
@@ -233,21 +233,25 @@ static void check_readings(void)
     struct call c = worked(3, 2, 1);
     c.quantity[0] = 1000000001;
     c.status[5] = 4;
-    refused("status 4; 8 before 9", c, 8, 1, 2);
+    refused("status 4; 21 before 9", c, 21, 1, 2);
     c.press[5] = 49999;
-    refused("pressure 49,999", c, 8, 1, 2);
+    refused("pressure 49,999 before the status", c, 20, 1, 2);
+    c.temp[5] = 10001;
+    refused("temperature 100.01 before both", c, 19, 1, 2);
+    c.content[5] = 10001;
+    refused("CH4 10,001 before the three", c, 18, 1, 2);
+    c.flow[5] = 30001;
+    refused("flow 30,001 before the four", c, 17, 1, 2);
     c.press[4] = 300001;
-    refused("pressure 300,001", c, 8, 1, 1);
+    refused("pressure 300,001 of an earlier interval", c, 20, 1, 1);
     c.temp[4] = -4001;
-    refused("temperature -40.01", c, 8, 1, 1);
-    c.temp[3] = 10001;
-    refused("temperature 100.01", c, 8, 1, 0);
+    refused("temperature -40.01", c, 19, 1, 1);
     c.content[2] = 10001;
-    refused("CH4 10,001 of the first device", c, 8, 0, 2);
+    refused("CH4 of the first device, flow of the second", c, 18, 0, 2);
     c.flow[1] = 30001;
-    refused("flow 30,001", c, 8, 0, 1);
+    refused("flow 30,001", c, 17, 0, 1);
     c.status[0] = 255;
-    refused("status 255", c, 8, 0, 0);
+    refused("status 255 before all, though its number is the highest", c, 21, 0, 0);
 }
 
 static void check_fuels(void)
@@ -347,7 +351,7 @@ static void check_year(void)
     expect(c.balances[0] == 19708496363520000 && c.balances[1] == 19708496, "a year of 16 devices", "balances");
     expect(c.flow_used[562175] == 30000 && c.content_used[562175] == 10000, "a year of 16 devices", "the last entry");
     c.status[562175] = 4;
-    expect(ask(&c) == 8 && c.at[0] == 15 && c.at[1] == 35135, "a year of 16 devices", "its last reading refused");
+    expect(ask(&c) == 21 && c.at[0] == 15 && c.at[1] == 35135, "a year of 16 devices", "its last reading refused");
 }
 
 int main(void)

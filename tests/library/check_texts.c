@@ -261,7 +261,7 @@ static void check_reports(void)
     check_report("", 0, 0, "refusal=12\ndevice=0\nplace=1\n");
     check_report("intervals=0\ndevices=1\n", 1, 1, "refusal=1\ndevice=0\nplace=0\n");
     check_report("intervals=1\ndevices=99\n", 1, 1, "refusal=2\ndevice=0\nplace=0\n");
-    check_report(HEAD "flow=30001\nch4=1\ntemp=1\npress=1\nstatus=1\n", 1, 1, "refusal=8\ndevice=0\nplace=0\n");
+    check_report(HEAD "flow=30001\nch4=1\ntemp=1\npress=1\nstatus=1\n", 1, 1, "refusal=17\ndevice=0\nplace=0\n");
     check_report(HEAD "flow=1\nch4=1\ntemp=1\npress=1\nstatus=\n", 1, 1, "refusal=12\ndevice=0\nplace=14\n");
 }
 
