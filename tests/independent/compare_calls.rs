@@ -3,12 +3,13 @@
 
 use crate::call::{Call, SLICES};
 use crate::calls;
-use crate::compare::{keep, kinds_wanted, record_kinds, Judged};
+use crate::compare::{keep, kinds_wanted, other_number, record_kinds, Judged};
 use crate::exact::{unfair, Given};
 use crate::image::{Array, Image};
 use crate::library::{Function, Library};
 use crate::quantify::{quantify, Quantified};
 use crate::refusal::Refusal;
+use crate::refusals::READINGS;
 use crate::rng::Rng;
 
 /// Each device's account: 13 numbers for each of 16 devices.
@@ -18,7 +19,8 @@ const ACCOUNTS_LENGTH: usize = 16 * ACCOUNT;
 /// Kinds of answer that any long run must meet.
 pub fn wanted() -> Vec<String> {
     let wrong_slices = SLICES.iter().map(|slice| wrong_length(slice));
-    kinds_wanted(1..=9).into_iter().chain(wrong_slices).collect()
+    let refusals = (1..=7).chain([9]).chain(READINGS);
+    kinds_wanted(refusals).into_iter().chain(wrong_slices).collect()
 }
 
 fn wrong_length(slice: &str) -> String {
@@ -85,7 +87,7 @@ type Answer = Result<Quantified, Refusal>;
 fn difference(call: &Call, answer: &Answer, before: &Image, given: u64, after: &Image) -> Option<String> {
     let number = answer.as_ref().err().map_or(0, |refusal| refusal.number as u64);
     if given != number {
-        return Some(format!("number {given}, expected {number}"));
+        return Some(other_number(given, number));
     }
     let different = expected(answer, before).difference(after);
     if different.is_some() || answer.is_err() {

@@ -9,6 +9,7 @@ use crate::process::{ask, Answered};
 use crate::protocol::{MOST_DEVICES, MOST_INTERVALS, PROGRAM_ROW};
 use crate::quantify::Quantified;
 use crate::refusal::Refusal;
+use crate::refusals::READINGS;
 use crate::rng::Rng;
 use crate::words::{tell, Owner, Told};
 use crate::{report, word_files};
@@ -24,16 +25,17 @@ const BY_THE_PROGRAM: &str = "program: refusal 13";
 /// What the words of a refusal can differ in.
 const WORDS: [&str; 20] = [
     "refusal  7, flow check", "refusal  7, CH4 check", "refusal  7, at", "refusal  7, drift",
-    "refusal  7, no position left", "refusal  8, flow", "refusal  8, ch4", "refusal  8, temp", "refusal  8, press",
-    "refusal  8, status", "refusal  9, quantity", "refusal  9, factor", "refusal 12, text ends",
+    "refusal  7, no position left", "refusal  9, quantity", "refusal  9, factor", "refusal 12, text ends",
     "refusal 12, without line end", "refusal 12, cut line", "refusal 12, escaped byte", "refusal 12, no line due",
+    "refusal 17, flow", "refusal 18, ch4", "refusal 19, temp", "refusal 20, press", "refusal 21, status",
     "time of an interval", "time of a check", "no time: check past the end",
 ];
 
 /// Kinds of answer that any long run must meet.
 pub fn wanted() -> Vec<String> {
     let others = WORDS.iter().chain([&BY_THE_PROGRAM]).map(|kind| kind.to_string());
-    kinds_wanted([1, 2, 4, 5, 6, 7, 8, 9, 12].into_iter()).into_iter().chain(others).collect()
+    let refusals = [1, 2, 4, 5, 6, 7, 9, 12].into_iter().chain(READINGS);
+    kinds_wanted(refusals).into_iter().chain(others).collect()
 }
 
 /// Both that are asked, and where the files are put that are given by name.
@@ -189,7 +191,7 @@ fn told_kinds(number: u32, told: &Told) -> Vec<String> {
                 (told.no_position_is_left(), "no position left".to_string()),
             ]
         }
-        (8 | 9, Some(due)) => vec![(true, due.key.to_string())],
+        (9 | 17..=21, Some(due)) => vec![(true, due.key.to_string())],
         (12, due) => vec![
             (told.text_ends(), "text ends".to_string()),
             (told.lacks_line_end(), "without line end".to_string()),

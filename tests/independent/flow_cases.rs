@@ -6,7 +6,7 @@ use crate::flow_arguments::{arguments, twin, wrong_option};
 use crate::flow_command::{Asked, Stands, Step};
 use crate::plain_files::{row_length, spoil};
 use crate::record::{joined, Record};
-use crate::refusal_files::break_rule;
+use crate::refusal_files::{break_rule, offend_reading};
 use crate::rng::Rng;
 use crate::samples::{self, good, real, right_samples, unknown, wrong_reading, WRONG_WAYS};
 use crate::{draw, historian::SAMPLE};
@@ -45,8 +45,12 @@ const OFFENCES: [(Step, &[Offence]); 6] = [
     (Step::Devices, &[Lacking]),
     (Step::Empty, &[Given]),
     (Step::Exports, &[NoExport, Shorter, Quality, Reading, ExportIsDirectory, Longer, Quality, Reading]),
-    (Step::Rest, &[Number(4), Number(5), Number(6), Number(7), Number(8), Number(9)]),
+    (Step::Rest, &REST),
 ];
+
+/// Quantification's other numbers, in order of test but for the readings, which are one step.
+const REST: [Offence; 10] =
+    [Number(4), Number(5), Number(6), Number(7), Number(17), Number(18), Number(19), Number(20), Number(21), Number(9)];
 
 pub struct Case {
     pub class: &'static str,
@@ -88,8 +92,10 @@ pub fn generate(seed: u64, number: usize, row: u64, directory: &Directory) -> Ca
     if number % 8 == 6 {
         return rivals(&rng, number, row, directory);
     }
-    let mut draft = Draft::new(&rng, number, row, directory, 1);
     let (class, offences) = drawn_offences(&rng, number);
+    // No wrong flow comes of an export: one device keeps the record's.
+    let spare = offences.iter().any(|(_, offence)| *offence == Number(17)) as usize;
+    let mut draft = Draft::new(&rng, number, row, directory, 1, spare);
     for (_, offence) in &offences {
         draft.offend(*offence);
     }
@@ -99,7 +105,7 @@ pub fn generate(seed: u64, number: usize, row: u64, directory: &Directory) -> Ca
 
 /// The same step finds something the matter with two devices: not the order of the words decides, but theirs.
 fn rivals(rng: &Rng, number: usize, row: u64, directory: &Directory) -> Case {
-    let mut draft = Draft::new(rng, number, row, directory, 2);
+    let mut draft = Draft::new(rng, number, row, directory, 2, 0);
     let step = [Step::Exports, Step::Empty, Step::Exports, Step::Devices][number / 8 % 4];
     if step == Step::Devices {
         draft.add_flow(draft.record.devices.len());
@@ -166,9 +172,9 @@ fn drawn_export(rng: &Rng, intervals: usize) -> Vec<u8> {
 }
 
 impl<'a> Draft<'a> {
-    /// At least so many devices get an export.
-    fn new(rng: &'a Rng, number: usize, row: u64, directory: &'a Directory, least: usize) -> Draft<'a> {
-        let (intervals, devices) = drawn_sizes(rng, number, row, least);
+    /// At least so many devices get an export, and at least so many get none.
+    fn new(rng: &'a Rng, number: usize, row: u64, directory: &'a Directory, least: usize, spare: usize) -> Draft<'a> {
+        let (intervals, devices) = drawn_sizes(rng, number, row, least + spare);
         let mut record = draw::record(rng, intervals, devices);
         for device in &mut record.devices {
             for which in 0..2 {
@@ -191,8 +197,9 @@ impl<'a> Draft<'a> {
         };
         let one_in = rng.pick(&[1, 2, 3]);
         let first = rng.below(devices);
-        let is_chosen = |device: usize| (device + devices - first) % devices < least;
-        for device in (0..devices).filter(|&device| is_chosen(device) || rng.chance(one_in)) {
+        let turn = |device: usize| (device + devices - first) % devices;
+        let is_chosen = |device: usize| turn(device) < least || (turn(device) < devices - spare && rng.chance(one_in));
+        for device in (0..devices).filter(|&device| is_chosen(device)) {
             draft.add_flow(device);
             draft.record.devices[device].flow.fill(None);
         }
@@ -244,8 +251,16 @@ impl<'a> Draft<'a> {
             }
             Quality => self.spoil_sample(unknown(rng, rng.below(253))),
             Reading => self.spoil_sample(good(wrong_reading(rng, self.number / 8))),
+            Number(17) => self.spoil_flow(),
             Number(number) => break_rule(rng, &mut self.record, number),
         }
+    }
+
+    /// A wrong flow of a device that has no export.
+    fn spoil_flow(&mut self) {
+        let is_spare = |device: &usize| self.flows.iter().all(|flow| flow.device != *device);
+        let spare: Vec<usize> = (0..self.record.devices.len()).filter(is_spare).collect();
+        offend_reading(self.rng, &mut self.record.devices[self.rng.pick(&spare)], 17, self.rng.below(3));
     }
 
     /// One flow, or some, that the record has where an export has them too.

@@ -49,6 +49,7 @@ mod selfcheck;
 mod selfcheck_calls;
 mod selfcheck_flow;
 mod selfcheck_historian;
+mod selfcheck_readings;
 mod selfcheck_texts;
 mod selfcheck_words;
 mod sheet;
