@@ -7,7 +7,7 @@ use crate::protocol::{MOST_DEVICES, MOST_INTERVALS};
 use crate::quantify::Quantified;
 use crate::refusal::{is_given, Refusal};
 use crate::refusals::READINGS;
-use crate::{damaged_sheets, generate, report, sheet};
+use crate::{damaged_sheets, generate, reading_kinds, report, sheet};
 use std::collections::BTreeMap;
 use std::path::Path;
 use std::sync::atomic::{AtomicUsize, Ordering};
@@ -41,7 +41,7 @@ pub fn ask_record(seed: u64, number: usize, row: u64) -> Asked {
     Asked {
         class: file.class,
         expected: report::text(&answer),
-        kinds: record_kinds(&answer),
+        kinds: [record_kinds(&answer), reading_kinds::of_file(&file.bytes, row, &answer)].concat(),
         doubt: wrong_line(&file.bytes, row) != line,
         bytes: file.bytes,
     }
@@ -68,7 +68,8 @@ pub fn sheet_kinds(quantified: &Quantified) -> Vec<String> {
 pub fn record_kinds_wanted(row: u64) -> Vec<String> {
     let short_row = row < MOST_INTERVALS as u64 * MOST_DEVICES as u64;
     let refusals = [1, 2, 4, 5, 6, 7, 9, 12, 13].into_iter().chain(READINGS);
-    kinds_wanted(refusals.filter(|&number| number != 13 || short_row))
+    let kinds = kinds_wanted(refusals.filter(|&number| number != 13 || short_row));
+    [kinds, reading_kinds::wanted()].concat()
 }
 
 /// These refusals, every outcome, and a negative reduction.

@@ -2,7 +2,6 @@
 //! own answer; after an accepted call demand 3, over the values that the library has given.
 
 use crate::call::{Call, SLICES};
-use crate::calls;
 use crate::compare::{keep, kinds_wanted, other_number, record_kinds, Judged};
 use crate::exact::{unfair, Given};
 use crate::image::{Array, Image};
@@ -11,6 +10,7 @@ use crate::quantify::{quantify, Quantified};
 use crate::refusal::Refusal;
 use crate::refusals::READINGS;
 use crate::rng::Rng;
+use crate::{calls, reading_kinds};
 
 /// Each device's account: 13 numbers for each of 16 devices.
 const ACCOUNT: usize = 13;
@@ -20,7 +20,8 @@ const ACCOUNTS_LENGTH: usize = 16 * ACCOUNT;
 pub fn wanted() -> Vec<String> {
     let wrong_slices = SLICES.iter().map(|slice| wrong_length(slice));
     let refusals = (1..=7).chain([9]).chain(READINGS);
-    kinds_wanted(refusals).into_iter().chain(wrong_slices).collect()
+    let readings = [reading_kinds::wanted(), reading_kinds::wanted_of_blocks()].concat();
+    kinds_wanted(refusals).into_iter().chain(wrong_slices).chain(readings).collect()
 }
 
 fn wrong_length(slice: &str) -> String {
@@ -38,6 +39,7 @@ pub fn judge(seed: u64, number: usize, library: &Library) -> Judged {
         Ok((given, bytes)) => difference(call, &answer, &before, given, &before.with(bytes)),
     };
     let mut kinds = record_kinds(&answer);
+    kinds.extend(answer.as_ref().err().map_or(vec![], |refusal| reading_kinds::of_call(call, refusal)));
     kinds.extend(generated.wrong_slice.map(wrong_length));
     let difference = difference.map(|difference| {
         let text = format!("{call:?}\n");

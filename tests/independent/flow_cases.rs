@@ -6,7 +6,7 @@ use crate::flow_arguments::{arguments, twin, wrong_option};
 use crate::flow_command::{Asked, Stands, Step};
 use crate::plain_files::{row_length, spoil};
 use crate::record::{joined, Record};
-use crate::refusal_files::{break_rule, offend_reading};
+use crate::refusal_files::{break_rule, spoil_reading};
 use crate::rng::Rng;
 use crate::samples::{self, good, real, right_samples, unknown, wrong_reading, WRONG_WAYS};
 use crate::{draw, historian::SAMPLE};
@@ -260,7 +260,9 @@ impl<'a> Draft<'a> {
     fn spoil_flow(&mut self) {
         let is_spare = |device: &usize| self.flows.iter().all(|flow| flow.device != *device);
         let spare: Vec<usize> = (0..self.record.devices.len()).filter(is_spare).collect();
-        offend_reading(self.rng, &mut self.record.devices[self.rng.pick(&spare)], 17, self.rng.below(3));
+        let n = self.intervals();
+        let interval = self.rng.pick(&[0, n - 1, self.rng.below(n)]);
+        spoil_reading(self.rng, &mut self.record, n * self.rng.pick(&spare) + interval, 17);
     }
 
     /// One flow, or some, that the record has where an export has them too.

@@ -37,6 +37,7 @@ mod possible_text;
 mod process;
 mod protocol;
 mod quantify;
+mod reading_kinds;
 mod record;
 mod record_reader;
 mod refusal;
@@ -58,6 +59,7 @@ mod tonnes;
 mod word_files;
 mod words;
 mod wrong_calls;
+mod wrong_readings;
 
 use answerer::{Answerer, Program};
 use compare::Asked;

@@ -1,10 +1,10 @@
 //! Classes of files that are refused by their numbers: the head's limits, one offence, several at once.
 
-use crate::draw;
 use crate::plain_files::row_length;
 use crate::record::{joined, Check, Device, Fuel, Record};
 use crate::refusals::READINGS;
 use crate::rng::Rng;
+use crate::{draw, wrong_readings};
 
 /// Heads on both sides of every limit of N, D and N x D.
 const HEADS: [(u64, u64); 44] = [
@@ -137,8 +137,17 @@ fn base(rng: &Rng, devices: usize) -> Record {
 }
 
 pub fn break_rule(rng: &Rng, record: &mut Record, number: u32) {
-    let (_, ways, _) = WAYS.iter().find(|(other, ..)| *other == number).unwrap();
-    offend(rng, record, number, rng.below(*ways));
+    offend(rng, record, number, rng.below(ways(number)));
+}
+
+/// How many ways there are to break this number's rule.
+fn ways(number: u32) -> usize {
+    WAYS.iter().find(|(other, ..)| *other == number).unwrap().1
+}
+
+/// Each kind of wrong reading, and of several, in turn.
+pub fn wrong_readings(rng: &Rng, case: usize, _row: u64) -> Vec<u8> {
+    wrong_readings::few(rng, case).text()
 }
 
 /// Two different rules broken, for every pair; now and then a wrong line too, which is answered before both.
@@ -224,9 +233,15 @@ fn offend_checks(rng: &Rng, record: &mut Record, device: usize, way: usize) {
     }
 }
 
-pub fn offend_reading(rng: &Rng, device: &mut Device, number: u32, way: usize) {
+fn offend_reading(rng: &Rng, device: &mut Device, number: u32, way: usize) {
     let i = rng.pick(&[0, device.flow.len() - 1, rng.below(device.flow.len())]);
     set_reading(rng, device, i, number, way);
+}
+
+/// Makes this entry of the number's series wrong, counted over all devices.
+pub fn spoil_reading(rng: &Rng, record: &mut Record, entry: usize, number: u32) {
+    let n = record.intervals as usize;
+    set_reading(rng, &mut record.devices[entry / n], entry % n, number, rng.below(ways(number)));
 }
 
 fn set_reading(rng: &Rng, device: &mut Device, i: usize, number: u32, way: usize) {

@@ -1,11 +1,18 @@
 //! The part of the self-check about wrong readings: both sides of each range with its number, and which of several
-//! decides (rules 4.17 to 4.21 and 5.8 of docs/RULES.md).
+//! decides (rules 4.17 to 4.21 and 5.8 of docs/RULES.md), a second time by definition; and that every kind of case that a
+//! long run must meet has its turn.
 
 use crate::call::Call;
+use crate::quantify::quantify;
+use crate::reading_kinds::{of_call, wanted, wanted_of_blocks};
+use crate::record::Record;
 use crate::refusal::is_given;
 use crate::refusals::READINGS;
+use crate::rng::Rng;
 use crate::selfcheck::Checks;
 use crate::selfcheck_calls::{answer, worked, FUEL};
+use crate::wrong_readings::{blocks, few, BLOCKS, FEW};
+use std::collections::BTreeSet;
 
 pub fn run(checks: &mut Checks) {
     numbers(checks);
@@ -13,6 +20,12 @@ pub fn run(checks: &mut Checks) {
     one_interval(checks);
     several_intervals(checks);
     other_steps(checks);
+    for seed in 0..20 {
+        in_turn(checks, seed, FEW, few, &wanted());
+    }
+    for seed in 0..3 {
+        in_turn(checks, seed, BLOCKS, blocks, &wanted_of_blocks());
+    }
 }
 
 /// 8 is given up.
@@ -130,4 +143,43 @@ fn other_steps(checks: &mut Checks) {
         (call.counts[2], call.positions[64]) = (1, 4);
         checks.same("a check and a reading", answer(&call), (7, 1, 0));
     }
+}
+
+/// Least, most and missing mark of each series; no status is outside its range and right.
+const RANGES: [(i64, i64, Option<i64>); 5] = [
+    (0, 30_000, Some(65_535)),
+    (0, 10_000, Some(65_535)),
+    (-4_000, 10_000, Some(-32_768)),
+    (50_000, 300_000, Some(0)),
+    (0, 3, None),
+];
+
+/// Of all wrong readings the least one by device, interval and series: its number, device and interval.
+fn by_definition(call: &Call) -> Option<(u32, u64, u64)> {
+    let n = call.intervals as usize;
+    let mut wrong = vec![];
+    for entry in 0..call.flow.len() {
+        let (flow, content, temp) = (call.flow[entry] as i64, call.content[entry] as i64, call.temp[entry] as i64);
+        let values = [flow, content, temp, call.press[entry] as i64, call.status[entry] as i64];
+        for (number, (value, (least, most, mark))) in READINGS.into_iter().zip(values.into_iter().zip(RANGES)) {
+            if !(least..=most).contains(&value) && Some(value) != mark {
+                wrong.push((entry / n, entry % n, number));
+            }
+        }
+    }
+    wrong.into_iter().min().map(|(device, interval, number)| (number, device as u64, interval as u64))
+}
+
+/// One turn of a class: answers as by definition, but where a check is wrong, and every kind that is wanted of it.
+fn in_turn(checks: &mut Checks, seed: u64, cases: usize, make: fn(&Rng, usize) -> Record, wanted: &[String]) {
+    let mut met = BTreeSet::new();
+    for case in 0..cases {
+        let call = Call::of(&make(&Rng::new(seed, case as u64), case));
+        let told = answer(&call);
+        let decided = if told.0 == 7 { Some(told) } else { by_definition(&call) };
+        checks.same("by definition", decided, Some(told));
+        met.extend(quantify(&call).err().map_or(vec![], |refusal| of_call(&call, &refusal)));
+    }
+    let lacking: Vec<&String> = wanted.iter().filter(|kind| !met.contains(*kind)).collect();
+    checks.same("kinds that a turn lacks", lacking, vec![]);
 }

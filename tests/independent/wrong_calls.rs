@@ -2,12 +2,11 @@
 //! can carry what no record file can: slices of any length, counts above 32, more than 64 fuel lines.
 
 use crate::call::{Call, FACTOR, QUANTITY, SLICES};
-use crate::draw;
-use crate::plain_files;
 use crate::protocol::MOST_CHECKS;
 use crate::record::{Check, Fuel};
 use crate::refusals::READINGS;
 use crate::rng::Rng;
+use crate::{draw, plain_files, wrong_readings};
 
 /// A small call that is accepted, with checks and gaps.
 fn base(rng: &Rng, devices: usize) -> Call {
@@ -208,9 +207,9 @@ pub fn rival_checks(rng: &Rng, _case: usize) -> Call {
     call
 }
 
-/// Several readings wrong, near each other or far, in long rows too.
-pub fn rival_readings(rng: &Rng, case: usize) -> Call {
-    let n = if case % 6 == 0 { rng.size(900, 2_200) } else { rng.size(1, 40) };
+/// Several readings wrong, near each other or far.
+pub fn rival_readings(rng: &Rng, _case: usize) -> Call {
+    let n = rng.size(1, 40);
     let mut call = base_of(rng, n, rng.pick(&[1, 2, 3]));
     let all = call.flow.len();
     let first = rng.below(all);
@@ -221,6 +220,16 @@ pub fn rival_readings(rng: &Rng, case: usize) -> Call {
         wrong_reading(rng, &mut call, entry, number, rng.below(ways(number).unwrap()));
     }
     call
+}
+
+/// Each kind of wrong reading, and of several, in turn.
+pub fn wrong_readings(rng: &Rng, case: usize) -> Call {
+    Call::of(&wrong_readings::few(rng, case))
+}
+
+/// The same in long rows.
+pub fn readings_in_blocks(rng: &Rng, case: usize) -> Call {
+    Call::of(&wrong_readings::blocks(rng, case))
 }
 
 pub fn rival_fuels(rng: &Rng, _case: usize) -> Call {
