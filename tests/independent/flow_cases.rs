@@ -6,9 +6,10 @@ use crate::flow_arguments::{arguments, twin, wrong_option};
 use crate::flow_command::{Asked, Stands, Step};
 use crate::plain_files::{row_length, spoil};
 use crate::record::{joined, Record};
-use crate::refusal_files::{break_rule, spoil_reading};
+use crate::refusal_files::break_rule;
 use crate::rng::Rng;
 use crate::samples::{self, good, real, right_samples, unknown, wrong_reading, WRONG_WAYS};
+use crate::wrong_readings::and_higher;
 use crate::{draw, historian::SAMPLE};
 use std::collections::BTreeMap;
 use std::sync::Arc;
@@ -234,7 +235,7 @@ impl<'a> Draft<'a> {
             }
             Lacking => {}
             Given => self.give_flow(),
-            NoExport => self.some_flow().stands = Stands::Nothing,
+            NoExport => self.lose_export(),
             ExportIsDirectory => {
                 let name = self.directory.name();
                 let flow = self.some_flow();
@@ -251,18 +252,27 @@ impl<'a> Draft<'a> {
             }
             Quality => self.spoil_sample(unknown(rng, rng.below(253))),
             Reading => self.spoil_sample(good(wrong_reading(rng, self.number / 8))),
-            Number(17) => self.spoil_flow(),
+            Number(number @ 17..=21) => self.spoil_readings(number),
             Number(number) => break_rule(rng, &mut self.record, number),
         }
     }
 
-    /// A wrong flow of a device that has no export.
-    fn spoil_flow(&mut self) {
-        let is_spare = |device: &usize| self.flows.iter().all(|flow| flow.device != *device);
-        let spare: Vec<usize> = (0..self.record.devices.len()).filter(is_spare).collect();
-        let n = self.intervals();
-        let interval = self.rng.pick(&[0, n - 1, self.rng.below(n)]);
-        spoil_reading(self.rng, &mut self.record, n * self.rng.pick(&spare) + interval, 17);
+    /// The directory, which an export may stand for by now, is not lost with it.
+    fn lose_export(&mut self) {
+        let flow = self.some_flow();
+        if !matches!(flow.stands, Stands::Directory) {
+            flow.stands = Stands::Nothing;
+        }
+    }
+
+    /// A wrong reading, and at times more in its interval; a wrong flow of a device that has no export.
+    fn spoil_readings(&mut self, number: u32) {
+        let (rng, n) = (self.rng, self.intervals());
+        let has_export = |device: usize| self.flows.iter().any(|flow| flow.device == device);
+        let may_be = |device: &usize| number > 17 || !has_export(*device);
+        let devices: Vec<usize> = (0..self.record.devices.len()).filter(may_be).collect();
+        let interval = rng.pick(&[0, n - 1, rng.below(n)]);
+        and_higher(rng, &mut self.record, n * rng.pick(&devices) + interval, number);
     }
 
     /// One flow, or some, that the record has where an export has them too.

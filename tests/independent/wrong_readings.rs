@@ -1,13 +1,12 @@
 //! Records with wrong readings, for files and for calls, in which it matters which of them is looked at first. What a
 //! long run must meet (`reading_kinds`) comes in turn, whatever is drawn.
 
-use crate::draw;
-use crate::plain_files;
 use crate::reading_kinds::{sets, BLOCK, PAIRS};
 use crate::record::Record;
 use crate::refusal_files::{break_rule, spoil_reading};
 use crate::refusals::READINGS;
 use crate::rng::Rng;
+use crate::{draw, plain_files};
 
 /// An accepted record with checks, in which about one interval in so many lacks a reading.
 fn base(rng: &Rng, n: usize, devices: usize, one_in: usize) -> Record {
@@ -25,8 +24,9 @@ fn entries(record: &Record) -> usize {
     record.intervals as usize * record.devices.len()
 }
 
-/// Some series with higher numbers are wrong in that interval too.
-fn and_higher(rng: &Rng, record: &mut Record, entry: usize, number: u32) {
+/// The reading is wrong, and some with higher numbers in that interval are too.
+pub fn and_higher(rng: &Rng, record: &mut Record, entry: usize, number: u32) {
+    spoil_reading(rng, record, entry, number);
     for higher in number + 1..=21 {
         if rng.chance(4) {
             spoil_reading(rng, record, entry, higher);
@@ -43,6 +43,11 @@ fn and_later(rng: &Rng, record: &mut Record, entry: usize) {
             spoil_reading(rng, record, later, rng.pick(&READINGS));
         }
     }
+}
+
+fn and_others(rng: &Rng, record: &mut Record, entry: usize, number: u32) {
+    and_higher(rng, record, entry, number);
+    and_later(rng, record, entry);
 }
 
 /// After so many cases of `few` all have had their turn.
@@ -90,7 +95,7 @@ fn in_one_device(rng: &Rng, record: &mut Record, (number, lower): (u32, u32)) {
     both(rng, record, (row + first, number), (row + second, lower));
 }
 
-/// The later device's interval may be any one, or an earlier one.
+/// The later device's interval is any one, or an earlier one.
 fn in_two_devices(rng: &Rng, record: &mut Record, (number, lower): (u32, u32), is_earlier: bool) {
     let (n, devices) = (record.intervals as usize, record.devices.len());
     let device = rng.below(devices - 1);
@@ -101,10 +106,8 @@ fn in_two_devices(rng: &Rng, record: &mut Record, (number, lower): (u32, u32), i
 }
 
 fn both(rng: &Rng, record: &mut Record, first: (usize, u32), second: (usize, u32)) {
-    for (entry, number) in [first, second] {
-        spoil_reading(rng, record, entry, number);
-        and_higher(rng, record, entry, number);
-    }
+    and_higher(rng, record, first.0, first.1);
+    and_higher(rng, record, second.0, second.1);
     and_later(rng, record, first.0);
 }
 
@@ -145,7 +148,7 @@ fn bordered(rng: &Rng) -> (Record, usize) {
 
 fn at_border(rng: &Rng, number: u32, beside: usize) -> Record {
     let (mut record, border) = bordered(rng);
-    spoil_deciding(rng, &mut record, border + beside - 1, number);
+    and_others(rng, &mut record, border + beside - 1, number);
     record
 }
 
@@ -153,14 +156,8 @@ fn end_of_row(rng: &Rng, number: u32, beside: usize) -> Record {
     let (blocks, devices) = rng.pick(&[(1, 1), (1, 1), (1, 2), (2, 1)]);
     let n = BLOCK * blocks + beside - 1;
     let mut record = base(rng, n, devices, 40);
-    spoil_deciding(rng, &mut record, n * rng.size(1, devices) - 1, number);
+    and_others(rng, &mut record, n * rng.size(1, devices) - 1, number);
     record
-}
-
-fn spoil_deciding(rng: &Rng, record: &mut Record, entry: usize, number: u32) {
-    spoil_reading(rng, record, entry, number);
-    and_higher(rng, record, entry, number);
-    and_later(rng, record, entry);
 }
 
 /// More may be wrong on either side, in any series.
@@ -179,6 +176,6 @@ fn over_border(rng: &Rng, (number, lower): (u32, u32)) -> Record {
 fn in_later_row(rng: &Rng, beside: usize) -> Record {
     let n = rng.size(1_026, 1_040);
     let mut record = base(rng, n, 2, 40);
-    spoil_deciding(rng, &mut record, n + BLOCK + beside - 1, rng.pick(&READINGS));
+    and_others(rng, &mut record, n + BLOCK + beside - 1, rng.pick(&READINGS));
     record
 }
