@@ -1,6 +1,6 @@
 //! The part of the self-check about wrong readings: both sides of each range with its number, and which of several
-//! decides (rules 4.17 to 4.21 and 5.8 of docs/RULES.md), a second time by definition; and that every kind of case that a
-//! long run must meet has its turn.
+//! decides (rules 4.17 to 4.21 and 5.8 of docs/RULES.md), a second time by definition; and that every kind of case that
+//! a long run must meet has its turn.
 
 use crate::call::Call;
 use crate::quantify::quantify;
