@@ -21,7 +21,7 @@ use Maker::{Lengths, Sound, Wrong};
 /// Enough for three devices with the longest gap that can be replaced, and its windows.
 const ROW: u64 = 4_000;
 
-const CLASSES: [Class<Maker>; 26] = [
+const CLASSES: [Class<Maker>; 28] = [
     class("small", 20, Sound(plain_files::small)),
     class("outcomes", 8, Sound(plain_files::outcomes)),
     class("month", 1, Sound(plain_files::month)),
@@ -45,7 +45,9 @@ const CLASSES: [Class<Maker>; 26] = [
     class("pairs of offences", 24, Wrong(wrong_calls::pairs)),
     class("offences from one on", 6, Wrong(wrong_calls::from_one_on)),
     class("rival checks", 12, Wrong(wrong_calls::rival_checks)),
-    class("rival readings", 12, Wrong(wrong_calls::rival_readings)),
+    class("rival readings", 6, Wrong(wrong_calls::rival_readings)),
+    class("wrong readings", 12, Wrong(wrong_calls::wrong_readings)),
+    class("readings in blocks", 8, Wrong(wrong_calls::readings_in_blocks)),
     class("rival fuels", 6, Wrong(wrong_calls::rival_fuels)),
     class("rival kinds", 6, Wrong(wrong_calls::rival_kinds)),
 ];

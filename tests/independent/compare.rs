@@ -5,8 +5,9 @@ use crate::answerer::Answerer;
 use crate::possible_text::{sheet_offset, wrong_line};
 use crate::protocol::{MOST_DEVICES, MOST_INTERVALS};
 use crate::quantify::Quantified;
-use crate::refusal::Refusal;
-use crate::{damaged_sheets, generate, report, sheet};
+use crate::refusal::{is_given, Refusal};
+use crate::refusals::READINGS;
+use crate::{damaged_sheets, generate, reading_kinds, report, sheet};
 use std::collections::BTreeMap;
 use std::path::Path;
 use std::sync::atomic::{AtomicUsize, Ordering};
@@ -40,7 +41,7 @@ pub fn ask_record(seed: u64, number: usize, row: u64) -> Asked {
     Asked {
         class: file.class,
         expected: report::text(&answer),
-        kinds: record_kinds(&answer),
+        kinds: [record_kinds(&answer), reading_kinds::of_file(&file.bytes, row, &answer)].concat(),
         doubt: wrong_line(&file.bytes, row) != line,
         bytes: file.bytes,
     }
@@ -66,8 +67,9 @@ pub fn sheet_kinds(quantified: &Quantified) -> Vec<String> {
 /// Kinds of answer that any long run must meet. A row for the longest record leaves no room for 13.
 pub fn record_kinds_wanted(row: u64) -> Vec<String> {
     let short_row = row < MOST_INTERVALS as u64 * MOST_DEVICES as u64;
-    let refusals = [1, 2, 4, 5, 6, 7, 8, 9, 12, 13];
-    kinds_wanted(refusals.into_iter().filter(|&number| number != 13 || short_row))
+    let refusals = [1, 2, 4, 5, 6, 7, 9, 12, 13].into_iter().chain(READINGS);
+    let kinds = kinds_wanted(refusals.filter(|&number| number != 13 || short_row));
+    [kinds, reading_kinds::wanted()].concat()
 }
 
 /// These refusals, every outcome, and a negative reduction.
@@ -144,6 +146,12 @@ fn difference(asked: &Asked, answerer: &dyn Answerer) -> Option<String> {
     }
 }
 
+/// Another number than the expected one; 0 is an accepted call's.
+pub fn other_number(given: u64, expected: u64) -> String {
+    let remark = if given == 0 || is_given(given) { "" } else { ", which is never given" };
+    format!("number {given}{remark}, expected {expected}")
+}
+
 /// The first line that differs, of the expected text and of the answer.
 pub fn first_difference(expected: &str, answer: &str) -> String {
     let (mut wanted, mut given) = (expected.split('\n'), answer.split('\n'));
@@ -151,8 +159,19 @@ pub fn first_difference(expected: &str, answer: &str) -> String {
         let pair = (wanted.next(), given.next());
         if pair.0 != pair.1 || pair.0.is_none() {
             let shown: String = pair.1.unwrap_or("(nothing more)").chars().take(80).collect();
-            return format!("expected {:?}, answered {shown:?}", pair.0.unwrap_or("(nothing more)"));
+            let expected = pair.0.unwrap_or("(nothing more)");
+            return format!("expected {expected:?}, answered {shown:?}{}", remark(&shown));
         }
+    }
+}
+
+/// What is to be said of a line with a refusal's number that is not in use.
+fn remark(line: &str) -> &'static str {
+    let number = line.strip_prefix("refusal=").and_then(|number| number.parse().ok());
+    if number.is_none_or(is_given) {
+        ""
+    } else {
+        ", a number that is never given"
     }
 }
 

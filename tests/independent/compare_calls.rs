@@ -2,14 +2,15 @@
 //! own answer; after an accepted call demand 3, over the values that the library has given.
 
 use crate::call::{Call, SLICES};
-use crate::calls;
-use crate::compare::{keep, kinds_wanted, record_kinds, Judged};
+use crate::compare::{keep, kinds_wanted, other_number, record_kinds, Judged};
 use crate::exact::{unfair, Given};
 use crate::image::{Array, Image};
 use crate::library::{Function, Library};
 use crate::quantify::{quantify, Quantified};
 use crate::refusal::Refusal;
+use crate::refusals::READINGS;
 use crate::rng::Rng;
+use crate::{calls, reading_kinds};
 
 /// Each device's account: 13 numbers for each of 16 devices.
 const ACCOUNT: usize = 13;
@@ -18,7 +19,9 @@ const ACCOUNTS_LENGTH: usize = 16 * ACCOUNT;
 /// Kinds of answer that any long run must meet.
 pub fn wanted() -> Vec<String> {
     let wrong_slices = SLICES.iter().map(|slice| wrong_length(slice));
-    kinds_wanted(1..=9).into_iter().chain(wrong_slices).collect()
+    let refusals = (1..=7).chain([9]).chain(READINGS);
+    let readings = [reading_kinds::wanted(), reading_kinds::wanted_of_blocks()].concat();
+    kinds_wanted(refusals).into_iter().chain(wrong_slices).chain(readings).collect()
 }
 
 fn wrong_length(slice: &str) -> String {
@@ -36,6 +39,7 @@ pub fn judge(seed: u64, number: usize, library: &Library) -> Judged {
         Ok((given, bytes)) => difference(call, &answer, &before, given, &before.with(bytes)),
     };
     let mut kinds = record_kinds(&answer);
+    kinds.extend(answer.as_ref().err().map_or(vec![], |refusal| reading_kinds::of_call(call, refusal)));
     kinds.extend(generated.wrong_slice.map(wrong_length));
     let difference = difference.map(|difference| {
         let text = format!("{call:?}\n");
@@ -85,7 +89,7 @@ type Answer = Result<Quantified, Refusal>;
 fn difference(call: &Call, answer: &Answer, before: &Image, given: u64, after: &Image) -> Option<String> {
     let number = answer.as_ref().err().map_or(0, |refusal| refusal.number as u64);
     if given != number {
-        return Some(format!("number {given}, expected {number}"));
+        return Some(other_number(given, number));
     }
     let different = expected(answer, before).difference(after);
     if different.is_some() || answer.is_err() {

@@ -9,9 +9,10 @@ use crate::process::{ask, Answered};
 use crate::protocol::{MOST_DEVICES, MOST_INTERVALS, PROGRAM_ROW};
 use crate::quantify::Quantified;
 use crate::refusal::Refusal;
+use crate::refusals::READINGS;
 use crate::rng::Rng;
 use crate::words::{tell, Owner, Told};
-use crate::{report, word_files};
+use crate::{reading_kinds, report, word_files};
 use std::path::PathBuf;
 use std::sync::Arc;
 use std::time::{SystemTime, UNIX_EPOCH};
@@ -22,18 +23,20 @@ pub const COMMAND_ROW: u64 = MOST_INTERVALS as u64 * MOST_DEVICES as u64;
 const BY_THE_PROGRAM: &str = "program: refusal 13";
 
 /// What the words of a refusal can differ in.
-const WORDS: [&str; 20] = [
+const WORDS: [&str; 25] = [
     "refusal  7, flow check", "refusal  7, CH4 check", "refusal  7, at", "refusal  7, drift",
-    "refusal  7, no position left", "refusal  8, flow", "refusal  8, ch4", "refusal  8, temp", "refusal  8, press",
-    "refusal  8, status", "refusal  9, quantity", "refusal  9, factor", "refusal 12, text ends",
+    "refusal  7, no position left", "refusal  9, quantity", "refusal  9, factor", "refusal 12, text ends",
     "refusal 12, without line end", "refusal 12, cut line", "refusal 12, escaped byte", "refusal 12, no line due",
-    "time of an interval", "time of a check", "no time: check past the end",
+    "refusal 17, flow", "refusal 18, ch4", "refusal 19, temp", "refusal 20, press", "refusal 21, status",
+    "refusal 17, flow, time", "refusal 18, ch4, time", "refusal 19, temp, time", "refusal 20, press, time",
+    "refusal 21, status, time", "time of an interval", "time of a check", "no time: check past the end",
 ];
 
 /// Kinds of answer that any long run must meet.
 pub fn wanted() -> Vec<String> {
     let others = WORDS.iter().chain([&BY_THE_PROGRAM]).map(|kind| kind.to_string());
-    kinds_wanted([1, 2, 4, 5, 6, 7, 8, 9, 12].into_iter()).into_iter().chain(others).collect()
+    let refusals = [1, 2, 4, 5, 6, 7, 9, 12].into_iter().chain(READINGS);
+    kinds_wanted(refusals).into_iter().chain(others).chain(reading_kinds::wanted()).collect()
 }
 
 /// Both that are asked, and where the files are put that are given by name.
@@ -167,7 +170,7 @@ fn kinds(
         kinds.push(BY_THE_PROGRAM.to_string());
     }
     if let (Err(refusal), Some(told)) = (by_command, told) {
-        let of_words = told_kinds(refusal.number, told);
+        let of_words = told_kinds(refusal.number, told, start);
         kinds.extend(of_words.into_iter().map(|kind| format!("refusal {:2}, {kind}", refusal.number)));
         kinds.extend(time_kind(told, start).map(str::to_string));
     }
@@ -179,7 +182,7 @@ fn is_13(answer: &Result<Quantified, Refusal>) -> bool {
 }
 
 /// What the words of this refusal show, of that in which they can differ.
-fn told_kinds(number: u32, told: &Told) -> Vec<String> {
+fn told_kinds(number: u32, told: &Told, start: Option<Time>) -> Vec<String> {
     let shown = match (number, told.due) {
         (7, Some(due)) => {
             let instrument = if let Owner::Check { instrument, .. } = due.owner { instrument } else { "no" };
@@ -189,7 +192,10 @@ fn told_kinds(number: u32, told: &Told) -> Vec<String> {
                 (told.no_position_is_left(), "no position left".to_string()),
             ]
         }
-        (8 | 9, Some(due)) => vec![(true, due.key.to_string())],
+        (9, Some(due)) => vec![(true, due.key.to_string())],
+        (17..=21, Some(due)) => {
+            vec![(start.is_none(), due.key.to_string()), (start.is_some(), format!("{}, time", due.key))]
+        }
         (12, due) => vec![
             (told.text_ends(), "text ends".to_string()),
             (told.lacks_line_end(), "without line end".to_string()),
@@ -223,7 +229,8 @@ impl Case {
         let file = file_name(&rng, number, directory);
         let name = file.as_deref().unwrap_or("standard input");
         let sentence = told.as_ref().map(|told| told.sentence(name, start));
-        let kinds = kinds(&by_program, &by_command, told.as_ref(), start);
+        let mut kinds = kinds(&by_program, &by_command, told.as_ref(), start);
+        kinds.extend(reading_kinds::of_file(&bytes, COMMAND_ROW, &by_command));
         let word = file.clone().or((number % 3 == 2).then(|| "-".to_string()));
         let arguments = arguments(&rng, word, start);
         Case { class, bytes: Arc::new(bytes), by_program, by_command, sentence, kinds, file, arguments }

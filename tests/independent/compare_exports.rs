@@ -1,7 +1,7 @@
 //! `cmm_read_flow` called directly: number and place, the row, and every other byte of what is lent, against the own
 //! answer.
 
-use crate::compare::{keep, Judged};
+use crate::compare::{keep, other_number, Judged};
 use crate::exports::{self, Export};
 use crate::historian::{entry, flow, is_right_length, pattern, read_export, samples, SAMPLE};
 use crate::image::{Array, Image};
@@ -112,7 +112,7 @@ fn difference(answer: &Answer, before: &Image, given: u64, after: &Image) -> Opt
     let mut expected = before.clone();
     let (number, place) = answer.as_ref().err().map_or((0, 0), |refusal| (refusal.number as u64, refusal.place));
     if given != number {
-        return Some(format!("number {given}, expected {number}"));
+        return Some(other_number(given, number));
     }
     expected.write("place", &[place]);
     if let Ok(row) = answer {

@@ -7,6 +7,7 @@ use crate::flow_cases::{self, Case};
 use crate::flow_command::{No, Stands, Step};
 use crate::process::{ask, Answered};
 use crate::quantify::Quantified;
+use crate::refusals::READINGS;
 use crate::sheet::sheet_text;
 use std::sync::Arc;
 
@@ -59,7 +60,8 @@ fn of_devices(step: Step) -> String {
 
 /// Kinds of answer that any long run must meet.
 pub fn wanted() -> Vec<String> {
-    let refusals = [1, 2, 4, 5, 6, 7, 8, 9, 12, 14, 15, 16].map(|number| format!("refusal {number:2}"));
+    let refusals = [1, 2, 4, 5, 6, 7, 9, 12, 14, 15, 16].into_iter().chain(READINGS);
+    let refusals = refusals.map(|number| format!("refusal {number:2}"));
     let said = SAID.iter().chain(&TIMED).map(|(kind, _)| kind.to_string());
     let unreadable = UNREADABLE.iter().map(|(kind, ..)| kind.to_string());
     let orders = STEPS.iter().flat_map(|&first| STEPS.iter().map(move |&other| (first, other)));

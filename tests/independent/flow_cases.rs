@@ -9,6 +9,7 @@ use crate::record::{joined, Record};
 use crate::refusal_files::break_rule;
 use crate::rng::Rng;
 use crate::samples::{self, good, real, right_samples, unknown, wrong_reading, WRONG_WAYS};
+use crate::wrong_readings::and_higher;
 use crate::{draw, historian::SAMPLE};
 use std::collections::BTreeMap;
 use std::sync::Arc;
@@ -45,8 +46,12 @@ const OFFENCES: [(Step, &[Offence]); 6] = [
     (Step::Devices, &[Lacking]),
     (Step::Empty, &[Given]),
     (Step::Exports, &[NoExport, Shorter, Quality, Reading, ExportIsDirectory, Longer, Quality, Reading]),
-    (Step::Rest, &[Number(4), Number(5), Number(6), Number(7), Number(8), Number(9)]),
+    (Step::Rest, &REST),
 ];
+
+/// Quantification's other numbers, in order of test but for the readings, which are one step.
+const REST: [Offence; 10] =
+    [Number(4), Number(5), Number(6), Number(7), Number(17), Number(18), Number(19), Number(20), Number(21), Number(9)];
 
 pub struct Case {
     pub class: &'static str,
@@ -88,8 +93,10 @@ pub fn generate(seed: u64, number: usize, row: u64, directory: &Directory) -> Ca
     if number % 8 == 6 {
         return rivals(&rng, number, row, directory);
     }
-    let mut draft = Draft::new(&rng, number, row, directory, 1);
     let (class, offences) = drawn_offences(&rng, number);
+    // No wrong flow comes of an export: one device keeps the record's.
+    let spare = offences.iter().any(|(_, offence)| *offence == Number(17)) as usize;
+    let mut draft = Draft::new(&rng, number, row, directory, 1, spare);
     for (_, offence) in &offences {
         draft.offend(*offence);
     }
@@ -99,7 +106,7 @@ pub fn generate(seed: u64, number: usize, row: u64, directory: &Directory) -> Ca
 
 /// The same step finds something the matter with two devices: not the order of the words decides, but theirs.
 fn rivals(rng: &Rng, number: usize, row: u64, directory: &Directory) -> Case {
-    let mut draft = Draft::new(rng, number, row, directory, 2);
+    let mut draft = Draft::new(rng, number, row, directory, 2, 0);
     let step = [Step::Exports, Step::Empty, Step::Exports, Step::Devices][number / 8 % 4];
     if step == Step::Devices {
         draft.add_flow(draft.record.devices.len());
@@ -166,9 +173,9 @@ fn drawn_export(rng: &Rng, intervals: usize) -> Vec<u8> {
 }
 
 impl<'a> Draft<'a> {
-    /// At least so many devices get an export.
-    fn new(rng: &'a Rng, number: usize, row: u64, directory: &'a Directory, least: usize) -> Draft<'a> {
-        let (intervals, devices) = drawn_sizes(rng, number, row, least);
+    /// At least so many devices get an export, and at least so many get none.
+    fn new(rng: &'a Rng, number: usize, row: u64, directory: &'a Directory, least: usize, spare: usize) -> Draft<'a> {
+        let (intervals, devices) = drawn_sizes(rng, number, row, least + spare);
         let mut record = draw::record(rng, intervals, devices);
         for device in &mut record.devices {
             for which in 0..2 {
@@ -191,8 +198,9 @@ impl<'a> Draft<'a> {
         };
         let one_in = rng.pick(&[1, 2, 3]);
         let first = rng.below(devices);
-        let is_chosen = |device: usize| (device + devices - first) % devices < least;
-        for device in (0..devices).filter(|&device| is_chosen(device) || rng.chance(one_in)) {
+        let turn = |device: usize| (device + devices - first) % devices;
+        let is_chosen = |device: usize| turn(device) < least || (turn(device) < devices - spare && rng.chance(one_in));
+        for device in (0..devices).filter(|&device| is_chosen(device)) {
             draft.add_flow(device);
             draft.record.devices[device].flow.fill(None);
         }
@@ -227,7 +235,7 @@ impl<'a> Draft<'a> {
             }
             Lacking => {}
             Given => self.give_flow(),
-            NoExport => self.some_flow().stands = Stands::Nothing,
+            NoExport => self.lose_export(),
             ExportIsDirectory => {
                 let name = self.directory.name();
                 let flow = self.some_flow();
@@ -244,8 +252,27 @@ impl<'a> Draft<'a> {
             }
             Quality => self.spoil_sample(unknown(rng, rng.below(253))),
             Reading => self.spoil_sample(good(wrong_reading(rng, self.number / 8))),
+            Number(number @ 17..=21) => self.spoil_readings(number),
             Number(number) => break_rule(rng, &mut self.record, number),
         }
+    }
+
+    /// The directory, which an export may stand for by now, is not lost with it.
+    fn lose_export(&mut self) {
+        let flow = self.some_flow();
+        if !matches!(flow.stands, Stands::Directory) {
+            flow.stands = Stands::Nothing;
+        }
+    }
+
+    /// A wrong reading, and at times more in its interval; a wrong flow of a device that has no export.
+    fn spoil_readings(&mut self, number: u32) {
+        let (rng, n) = (self.rng, self.intervals());
+        let has_export = |device: usize| self.flows.iter().any(|flow| flow.device == device);
+        let may_be = |device: &usize| number > 17 || !has_export(*device);
+        let devices: Vec<usize> = (0..self.record.devices.len()).filter(may_be).collect();
+        let interval = rng.pick(&[0, n - 1, rng.below(n)]);
+        and_higher(rng, &mut self.record, n * rng.pick(&devices) + interval, number);
     }
 
     /// One flow, or some, that the record has where an export has them too.

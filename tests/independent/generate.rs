@@ -38,7 +38,7 @@ enum Maker {
 use Maker::{Bytes, Sound};
 
 /// Most files are short, and so is the whole.
-const CLASSES: [Class<Maker>; 19] = [
+const CLASSES: [Class<Maker>; 20] = [
     class("small", 14, Sound(plain_files::small)),
     class("outcomes", 8, Sound(plain_files::outcomes)),
     class("month", 1, Sound(plain_files::month)),
@@ -54,7 +54,8 @@ const CLASSES: [Class<Maker>; 19] = [
     class("heads", 15, Bytes(refusal_files::heads)),
     class("one offence", 14, Bytes(refusal_files::one)),
     class("pairs of offences", 9, Bytes(refusal_files::pairs)),
-    class("rival offenders", 15, Bytes(refusal_files::rivals)),
+    class("rival offenders", 12, Bytes(refusal_files::rivals)),
+    class("wrong readings", 12, Bytes(refusal_files::wrong_readings)),
     class("one wrong value", 42, Bytes(damaged_files::values)),
     class("damaged text", 16, Bytes(damaged_files::texts)),
     class("junk", 3, Bytes(damaged_files::junk)),

@@ -1,9 +1,10 @@
 //! Classes of files that are refused by their numbers: the head's limits, one offence, several at once.
 
-use crate::draw;
 use crate::plain_files::row_length;
 use crate::record::{joined, Check, Device, Fuel, Record};
+use crate::refusals::READINGS;
 use crate::rng::Rng;
+use crate::{draw, wrong_readings};
 
 /// Heads on both sides of every limit of N, D and N x D.
 const HEADS: [(u64, u64); 44] = [
@@ -83,10 +84,23 @@ fn head(rng: &Rng, n: u64, devices: u64) -> Vec<u8> {
 }
 
 /// For each number, how many ways there are to break its rule, and how many more come just up to the limit.
-const WAYS: [(u32, usize, usize); 7] = [(4, 5, 2), (5, 5, 2), (6, 1, 1), (7, 9, 3), (8, 15, 7), (9, 5, 2), (12, 3, 0)];
+const WAYS: [(u32, usize, usize); 11] = [
+    (4, 5, 2),
+    (5, 5, 2),
+    (6, 1, 1),
+    (7, 9, 3),
+    (17, 3, 1),
+    (18, 3, 1),
+    (19, 3, 2),
+    (20, 4, 2),
+    (21, 2, 1),
+    (9, 5, 2),
+    (12, 3, 0),
+];
 
-/// The numbers of quantification that a record file can be refused with.
-const NUMBERS: [u32; 6] = [4, 5, 6, 7, 8, 9];
+/// The numbers of quantification that a record file can be refused with, in order of test but for the readings, which
+/// are one step.
+const NUMBERS: [u32; 10] = [4, 5, 6, 7, 17, 18, 19, 20, 21, 9];
 
 /// One rule broken in every way, or its limit just met.
 pub fn one(rng: &Rng, case: usize, _row: u64) -> Vec<u8> {
@@ -123,18 +137,27 @@ fn base(rng: &Rng, devices: usize) -> Record {
 }
 
 pub fn break_rule(rng: &Rng, record: &mut Record, number: u32) {
-    let (_, ways, _) = WAYS[NUMBERS.iter().position(|&other| other == number).unwrap()];
-    offend(rng, record, number, rng.below(ways));
+    offend(rng, record, number, rng.below(ways(number)));
+}
+
+/// How many ways there are to break this number's rule.
+fn ways(number: u32) -> usize {
+    WAYS.iter().find(|(other, ..)| *other == number).unwrap().1
+}
+
+/// Each kind of wrong reading, and of several, in turn.
+pub fn wrong_readings(rng: &Rng, case: usize, _row: u64) -> Vec<u8> {
+    wrong_readings::few(rng, case).text()
 }
 
 /// Two different rules broken, for every pair; now and then a wrong line too, which is answered before both.
 pub fn pairs(rng: &Rng, case: usize, _row: u64) -> Vec<u8> {
     let all: Vec<(u32, u32)> =
-        NUMBERS.iter().flat_map(|&a| NUMBERS.iter().filter(move |&&b| a < b).map(move |&b| (a, b))).collect();
-    let (lower, higher) = all[case % all.len()];
+        (0..NUMBERS.len()).flat_map(|at| NUMBERS[at + 1..].iter().map(move |&later| (NUMBERS[at], later))).collect();
+    let (earlier, later) = all[case % all.len()];
     let mut record = base(rng, rng.size(2, 3));
-    break_rule(rng, &mut record, higher);
-    break_rule(rng, &mut record, lower);
+    break_rule(rng, &mut record, later);
+    break_rule(rng, &mut record, earlier);
     let mut lines = record.lines();
     if rng.chance(8) {
         let wrong = rng.below(lines.len());
@@ -143,15 +166,16 @@ pub fn pairs(rng: &Rng, case: usize, _row: u64) -> Vec<u8> {
     joined(&lines)
 }
 
-/// One rule broken several times: the first offender is asked for.
+/// The rule of one step broken several times: the first offender is asked for.
 pub fn rivals(rng: &Rng, case: usize, _row: u64) -> Vec<u8> {
-    let number = [7, 8, 9, 8, 7, 8, 9, 5, 7, 6][case % 10];
+    let readings = &READINGS[..];
+    let numbers = [&[7], readings, &[9], readings, &[7], readings, &[9], &[5], &[7], &[6]][case % 10];
     let mut record = base(rng, rng.pick(&[1, 1, 2, 3]));
-    if number == 9 {
+    if numbers == [9] {
         record.fuels = (0..rng.size(2, 6)).map(|_| draw::fuel(rng)).collect();
     }
     for _ in 0..rng.size(2, 4) {
-        break_rule(rng, &mut record, number);
+        break_rule(rng, &mut record, rng.pick(numbers));
     }
     record.text()
 }
@@ -168,7 +192,7 @@ fn offend(rng: &Rng, record: &mut Record, number: u32, way: usize) {
             device.kind = 6;
         }
         7 => offend_checks(rng, record, place, way),
-        8 => offend_reading(rng, device, way),
+        17..=21 => offend_reading(rng, device, number, way),
         9 => offend_fuel(rng, record, way),
         _ => offend_count(rng, record, place, way),
     }
@@ -209,19 +233,24 @@ fn offend_checks(rng: &Rng, record: &mut Record, device: usize, way: usize) {
     }
 }
 
-fn offend_reading(rng: &Rng, device: &mut Device, way: usize) {
+fn offend_reading(rng: &Rng, device: &mut Device, number: u32, way: usize) {
     let i = rng.pick(&[0, device.flow.len() - 1, rng.below(device.flow.len())]);
-    match way {
-        0..=2 => device.flow[i] = Some([30_001, 40_000, 65_534][way]),
-        3..=5 => device.ch4[i] = Some([10_001, 30_000, 65_534][way - 3]),
-        6..=8 => device.temp[i] = Some([-4_001, 10_001, rng.pick(&[-32_767, 32_767])][way - 6]),
-        9..=12 => device.press[i] = Some([49_999, 300_001, 1, u32::MAX][way - 9]),
-        13..=14 => device.status[i] = [4, 255][way - 13],
-        15 => device.flow[i] = Some(30_000),
-        16 => device.ch4[i] = Some(10_000),
-        17..=18 => device.temp[i] = Some([-4_000, 10_000][way - 17]),
-        19..=20 => device.press[i] = Some([50_000, 300_000][way - 19]),
-        _ => device.status[i] = 3,
+    set_reading(rng, device, i, number, way);
+}
+
+/// Makes this entry of the number's series wrong, counted over all devices.
+pub fn spoil_reading(rng: &Rng, record: &mut Record, entry: usize, number: u32) {
+    let n = record.intervals as usize;
+    set_reading(rng, &mut record.devices[entry / n], entry % n, number, rng.below(ways(number)));
+}
+
+fn set_reading(rng: &Rng, device: &mut Device, i: usize, number: u32, way: usize) {
+    match number {
+        17 => device.flow[i] = Some([30_001, 40_000, 65_534, 30_000][way]),
+        18 => device.ch4[i] = Some([10_001, 30_000, 65_534, 10_000][way]),
+        19 => device.temp[i] = Some([-4_001, 10_001, rng.pick(&[-32_767, 32_767]), -4_000, 10_000][way]),
+        20 => device.press[i] = Some([49_999, 300_001, 1, u32::MAX, 50_000, 300_000][way]),
+        _ => device.status[i] = [4, 255, 3][way],
     }
 }
 

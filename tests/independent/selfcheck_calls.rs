@@ -21,7 +21,7 @@ pub fn run(checks: &mut Checks) {
 }
 
 /// Document 01's worked interval, for so many intervals and devices, with these fuels.
-fn worked(n: usize, devices: usize, fuels: &[Fuel]) -> Call {
+pub fn worked(n: usize, devices: usize, fuels: &[Fuel]) -> Call {
     let device = Device {
         kind: 2,
         flow: vec![Some(30_000); n],
@@ -34,10 +34,10 @@ fn worked(n: usize, devices: usize, fuels: &[Fuel]) -> Call {
     Call::of(&Record { intervals: n as u32, mine: 0, fuels: fuels.to_vec(), devices: vec![device; devices] })
 }
 
-const FUEL: Fuel = Fuel { quantity: 1_000, factor: 700_000 };
+pub const FUEL: Fuel = Fuel { quantity: 1_000, factor: 700_000 };
 
 /// Number, device and place; three times 0 where nothing is refused.
-fn answer(call: &Call) -> (u32, u64, u64) {
+pub fn answer(call: &Call) -> (u32, u64, u64) {
     quantify(call).err().map_or((0, 0, 0), |refusal| (refusal.number, refusal.device, refusal.place))
 }
 
@@ -90,12 +90,12 @@ fn order(checks: &mut Checks) {
     let mut call = worked(3, 2, &[FUEL, FUEL]);
     call.factor[1] = 4_000_001;
     checks.same("fuel", answer(&call), (9, 0, 1));
-    call.status[5] = 4;
-    checks.same("8 before 9", answer(&call), (8, 1, 2));
-    call.flow[4] = 30_001;
-    checks.same("the earlier interval, the later series or not", answer(&call), (8, 1, 1));
+    call.flow[5] = 30_001;
+    checks.same("17 before 9", answer(&call), (17, 1, 2));
+    call.status[4] = 4;
+    checks.same("21 of an earlier interval before 17", answer(&call), (21, 1, 1));
     call.counts[3] = 33;
-    checks.same("7 before 8", answer(&call), (7, 1, 32));
+    checks.same("7 before 21", answer(&call), (7, 1, 32));
     call.kinds[1] = 6;
     checks.same("6 before 7", answer(&call), (6, 1, 0));
     call.kinds[1] = 258;

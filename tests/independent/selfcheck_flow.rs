@@ -243,7 +243,7 @@ fn orders(checks: &mut Checks) {
         (vec!["1=a", "0=b"], kind.clone(), "cmm: a: a sample's quality"),
         (vec!["1=b", "0=b"], kind.clone(), "r:5: there is no such kind of device"),
         (vec!["1=b"], with("mine=0", "mine=7", empty), "r:3: there is no such mine"),
-        (vec!["1=b"], with("press=101325", "press=1", empty), "r:11: a reading is out of range: press=1"),
+        (vec!["1=b"], with("press=101325", "press=1", empty), "r:11: the pressure is out of range: press=1"),
     ] {
         let told = said(&options, &[("r", &text), ("a", &bad), ("b", &good)]);
         checks.same(piece, told.contains(piece), true);

@@ -10,6 +10,7 @@ use crate::words::tell;
 pub fn run(checks: &mut Checks) {
     page_example(checks);
     numbers(checks);
+    readings(checks);
     wrong_lines(checks);
     line_lengths(checks);
     ends(checks);
@@ -44,7 +45,7 @@ fn page_example(checks: &mut Checks) {
     checks.same("nothing is said of a sheet", said(text.as_bytes(), "wrong.record", None), String::new());
     let line = text.match_indices("flow=1\n").nth(823).unwrap().0;
     text.replace_range(line..line + 6, "flow=30001");
-    let wanted = "cmm: wrong.record:4137: a reading is out of range: flow=30001 (device 0, interval 823, \
+    let wanted = "cmm: wrong.record:4137: the flow is out of range: flow=30001 (device 0, interval 823, \
         2026-01-09T13:45); 0 to 30000 is right, in 0.1 m3, or nothing where it is missing\n";
     let start = Some(time(2026, 1, 1, 0, 0));
     checks.same("the page's example", said(text.as_bytes(), "wrong.record", start).as_str(), wanted);
@@ -89,25 +90,25 @@ fn numbers(checks: &mut Checks) {
         (
             "ch4=10000 temp=2000",
             "ch4=10001 temp=10001",
-            "11: a reading is out of range: ch4=10001 (device 0, interval 0); 0 to 10000 is right, in 0.01 %, or \
+            "11: the CH4 content is out of range: ch4=10001 (device 0, interval 0); 0 to 10000 is right, in 0.01 %, or \
              nothing where it is missing",
         ),
         (
             "temp=2000",
             "temp=-4001",
-            "12: a reading is out of range: temp=-4001 (device 0, interval 0); -4000 to 10000 is right, in 0.01 \
+            "12: the temperature is out of range: temp=-4001 (device 0, interval 0); -4000 to 10000 is right, in 0.01 \
              degrees Celsius, or nothing where it is missing",
         ),
         (
             "press=101325",
             "press=49999",
-            "13: a reading is out of range: press=49999 (device 0, interval 0); 50000 to 300000 is right, in Pa, or \
+            "13: the pressure is out of range: press=49999 (device 0, interval 0); 50000 to 300000 is right, in Pa, or \
              nothing where it is missing",
         ),
         (
             "status=1",
             "status=4",
-            "14: a reading is out of range: status=4 (device 0, interval 0); 0 to 3 is right, for stopped, running, \
+            "14: the status is out of range: status=4 (device 0, interval 0); 0 to 3 is right, for stopped, running, \
              running and attested, no thermocouple record",
         ),
         (
@@ -123,6 +124,66 @@ fn numbers(checks: &mut Checks) {
         ),
     ] {
         checks.same(to, said(&edited(from, to), "a b", None), format!("cmm: a b:{wanted}\n"));
+    }
+}
+
+/// Two devices of two intervals, whose five lines begin at 8, 13, 21 and 26, with some lines replaced.
+fn with_lines(replaced: &[(usize, &str)]) -> Vec<u8> {
+    let interval = "flow=1 ch4=1 temp=1 press=50000 status=1";
+    let device = format!("kind=1 flow_checks=0 ch4_checks=0 {interval} {interval}");
+    let text = format!("intervals=2 devices=2 mine=0 fuels=0 {device} {device}");
+    let mut words: Vec<&str> = text.split(' ').collect();
+    for (line, word) in replaced {
+        words[line - 1] = word;
+    }
+    lines(&words.join(" "))
+}
+
+/// Each reading's number names its line, of several wrong ones in an interval the first; no time without a start.
+fn readings(checks: &mut Checks) {
+    let start = Some(time(2026, 2, 28, 23, 45));
+    for (replaced, wrong, device, interval, right) in [
+        (
+            &[(21, "flow=30001"), (22, "ch4=10001"), (25, "status=4")][..],
+            "21: the flow is out of range: flow=30001",
+            1,
+            0,
+            "0 to 30000 is right, in 0.1 m3, or nothing where it is missing",
+        ),
+        (
+            &[(26, "flow="), (27, "ch4=65534"), (29, "press=1")],
+            "27: the CH4 content is out of range: ch4=65534",
+            1,
+            1,
+            "0 to 10000 is right, in 0.01 %, or nothing where it is missing",
+        ),
+        (
+            &[(15, "temp=10001"), (16, "press=49999"), (21, "flow=40000")],
+            "15: the temperature is out of range: temp=10001",
+            0,
+            1,
+            "-4000 to 10000 is right, in 0.01 degrees Celsius, or nothing where it is missing",
+        ),
+        (
+            &[(16, "press=300001"), (17, "status=255"), (23, "temp=-4001")],
+            "16: the pressure is out of range: press=300001",
+            0,
+            1,
+            "50000 to 300000 is right, in Pa, or nothing where it is missing",
+        ),
+        (
+            &[(12, "status=4"), (13, "flow=30001"), (14, "ch4=10001")],
+            "12: the status is out of range: status=4",
+            0,
+            0,
+            "0 to 3 is right, for stopped, running, running and attested, no thermocouple record",
+        ),
+    ] {
+        let text = with_lines(replaced);
+        let begins = ["2026-02-28T23:45", "2026-03-01T00:00"][interval];
+        let of_interval = format!("device {device}, interval {interval}");
+        checks.same(wrong, said(&text, "f", None), format!("cmm: f:{wrong} ({of_interval}); {right}\n"));
+        checks.same(wrong, said(&text, "f", start), format!("cmm: f:{wrong} ({of_interval}, {begins}); {right}\n"));
     }
 }
 

@@ -25,6 +25,13 @@ pub struct Due {
     pub interval: Option<u64>,
 }
 
+impl Due {
+    /// What has no number is missing, and not outside.
+    fn is_outside(&self, number: Option<i64>) -> bool {
+        number.is_some_and(|number| number < self.least || number > self.most)
+    }
+}
+
 /// The line that a refusal is about, as it stands.
 pub struct Told<'a> {
     refusal: Refusal,
@@ -65,9 +72,13 @@ fn wrong(number: u32) -> &'static str {
         5 => "there is no such kind of device",
         6 => "pipeline injection is not for an underground mine",
         7 => "a check is wrong",
-        8 => "a reading is out of range",
         9 => "a fuel line is out of range",
         12 => "the line is wrong",
+        17 => "the flow is out of range",
+        18 => "the CH4 content is out of range",
+        19 => "the temperature is out of range",
+        20 => "the pressure is out of range",
+        21 => "the status is out of range",
         _ => panic!("a record file is not refused with {number}"),
     }
 }
@@ -80,8 +91,12 @@ fn judged(number: u32) -> &'static [&'static str] {
         4 => &["mine"],
         5 | 6 => &["kind"],
         7 => &["at", "drift"],
-        8 => &["flow", "ch4", "temp", "press", "status"],
         9 => &["quantity", "factor"],
+        17 => &["flow"],
+        18 => &["ch4"],
+        19 => &["temp"],
+        20 => &["press"],
+        21 => &["status"],
         _ => &[],
     }
 }
@@ -201,8 +216,14 @@ impl<'a> Walk<'a> {
         match self.refusal.number {
             12 => self.line == self.refusal.place,
             6 => judged && number == Some(6),
-            _ => judged && number.is_some_and(|number| number < due.least || number > due.most),
+            // The number names the series, device and place the interval.
+            17..=21 => judged && due.owner == self.refused_interval(),
+            _ => judged && due.is_outside(number),
         }
+    }
+
+    fn refused_interval(&self) -> Owner {
+        Owner::Interval { device: self.refusal.device, interval: self.refusal.place }
     }
 
     fn after_the_record(&mut self) -> Told<'a> {
@@ -222,7 +243,7 @@ impl Told<'_> {
         format!("cmm: {file}:{line}: {wrong}: {}{}; {}\n", self.value(), self.of_where(start), self.right())
     }
 
-    /// Is this line the one that the refusal's device and place name?
+    /// Is this line the one that the refusal's device and place name, and is a reading wrong there?
     fn agrees(&self) -> bool {
         let Refusal { number, device, place } = self.refusal;
         if number == 12 {
@@ -234,8 +255,12 @@ impl Told<'_> {
             Some(Owner::Fuel(fuel)) => (device, place) == (0, fuel),
             Some(Owner::Device(own)) => (device, place) == (own, 0),
             Some(Owner::Check { device: own, check, .. }) => (device, place) == (own, check),
-            Some(Owner::Interval { device: own, interval }) => (device, place) == (own, interval),
+            Some(Owner::Interval { device: own, interval }) => (device, place) == (own, interval) && self.is_outside(),
         }
+    }
+
+    fn is_outside(&self) -> bool {
+        self.due.is_some_and(|due| due.is_outside(self.bytes.and_then(number_of)))
     }
 
     pub fn text_ends(&self) -> bool {

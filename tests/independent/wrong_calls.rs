@@ -2,11 +2,11 @@
 //! can carry what no record file can: slices of any length, counts above 32, more than 64 fuel lines.
 
 use crate::call::{Call, FACTOR, QUANTITY, SLICES};
-use crate::draw;
-use crate::plain_files;
 use crate::protocol::MOST_CHECKS;
 use crate::record::{Check, Fuel};
+use crate::refusals::READINGS;
 use crate::rng::Rng;
+use crate::{draw, plain_files, wrong_readings};
 
 /// A small call that is accepted, with checks and gaps.
 fn base(rng: &Rng, devices: usize) -> Call {
@@ -58,7 +58,7 @@ pub fn lengths(rng: &Rng, case: usize) -> Call {
     let way = case / SLICES.len() % LENGTH_WAYS;
     let mut call = base(rng, some(rng));
     match rng.below(6) {
-        0 => offend(rng, &mut call, rng.pick(&[4, 5, 6, 7, 8, 9])),
+        0 => offend(rng, &mut call, rng.pick(&ORDER[3..])),
         1 => {
             let other = rng.below(SLICES.len());
             wrong_length(rng, &mut call, other, rng.below(LENGTH_WAYS));
@@ -145,8 +145,23 @@ fn resize<T: Copy>(entries: &mut Vec<T>, length: usize, default: T) {
 }
 
 /// For each number but 3: how many ways there are to break its rule, and how many more come just up to its limits.
-const WAYS: [(u32, usize, usize); 8] =
-    [(1, 6, 0), (2, 6, 0), (4, 7, 2), (5, 9, 2), (6, 1, 1), (7, 17, 4), (8, 19, 8), (9, 14, 5)];
+const WAYS: [(u32, usize, usize); 12] = [
+    (1, 6, 0),
+    (2, 6, 0),
+    (4, 7, 2),
+    (5, 9, 2),
+    (6, 1, 1),
+    (7, 17, 4),
+    (17, 3, 2),
+    (18, 3, 2),
+    (19, 5, 3),
+    (20, 5, 3),
+    (21, 3, 1),
+    (9, 14, 5),
+];
+
+/// All numbers, in order of test but for the readings, which are one step.
+const ORDER: [u32; 13] = [1, 2, 3, 4, 5, 6, 7, 17, 18, 19, 20, 21, 9];
 
 /// One rule broken in every way, or its limit just met.
 pub fn one(rng: &Rng, case: usize) -> Call {
@@ -165,18 +180,19 @@ pub fn one(rng: &Rng, case: usize) -> Call {
 
 /// Two rules broken, for every pair of them.
 pub fn pairs(rng: &Rng, case: usize) -> Call {
-    let all: Vec<(u32, u32)> = (1..10).flat_map(|a| (a + 1..10).map(move |b| (a, b))).collect();
-    let (lower, higher) = all[case % all.len()];
+    let all: Vec<(u32, u32)> =
+        (0..ORDER.len()).flat_map(|at| ORDER[at + 1..].iter().map(move |&later| (ORDER[at], later))).collect();
+    let (earlier, later) = all[case % all.len()];
     let mut call = base(rng, rng.size(2, 3));
-    offend(rng, &mut call, higher);
-    offend(rng, &mut call, lower);
+    offend(rng, &mut call, later);
+    offend(rng, &mut call, earlier);
     call
 }
 
-/// Every rule from some number on broken.
+/// Every rule from some number on broken, in order of test.
 pub fn from_one_on(rng: &Rng, case: usize) -> Call {
     let mut call = base(rng, rng.size(2, 3));
-    for number in (case as u32 % 9 + 1..10).rev() {
+    for &number in ORDER[case % ORDER.len()..].iter().rev() {
         offend(rng, &mut call, number);
     }
     call
@@ -191,18 +207,29 @@ pub fn rival_checks(rng: &Rng, _case: usize) -> Call {
     call
 }
 
-/// Several readings wrong, near each other or far, in long rows too.
-pub fn rival_readings(rng: &Rng, case: usize) -> Call {
-    let n = if case % 6 == 0 { rng.size(900, 2_200) } else { rng.size(1, 40) };
+/// Several readings wrong, near each other or far.
+pub fn rival_readings(rng: &Rng, _case: usize) -> Call {
+    let n = rng.size(1, 40);
     let mut call = base_of(rng, n, rng.pick(&[1, 2, 3]));
     let all = call.flow.len();
     let first = rng.below(all);
     for _ in 0..rng.size(1, 4) {
         let near = (first + rng.below(5)).saturating_sub(2);
         let entry = rng.pick(&[first, near, rng.below(all), all - 1, n - 1, n % all]).min(all - 1);
-        wrong_reading(rng, &mut call, entry, rng.below(19));
+        let number = rng.pick(&READINGS);
+        wrong_reading(rng, &mut call, entry, number, rng.below(ways(number).unwrap()));
     }
     call
+}
+
+/// Each kind of wrong reading, and of several, in turn.
+pub fn wrong_readings(rng: &Rng, case: usize) -> Call {
+    Call::of(&wrong_readings::few(rng, case))
+}
+
+/// The same in long rows.
+pub fn readings_in_blocks(rng: &Rng, case: usize) -> Call {
+    Call::of(&wrong_readings::blocks(rng, case))
 }
 
 pub fn rival_fuels(rng: &Rng, _case: usize) -> Call {
@@ -226,10 +253,15 @@ pub fn rival_kinds(rng: &Rng, _case: usize) -> Call {
     call
 }
 
+/// How many ways there are to break the rule of this number; nothing of 3.
+fn ways(number: u32) -> Option<usize> {
+    WAYS.iter().find(|(other, ..)| *other == number).map(|(_, ways, _)| *ways)
+}
+
 /// Breaks the rule of this number in some way.
 fn offend(rng: &Rng, call: &mut Call, number: u32) {
-    match WAYS.iter().find(|(other, ..)| *other == number) {
-        Some((_, ways, _)) => offend_so(rng, call, number, rng.below(*ways)),
+    match ways(number) {
+        Some(ways) => offend_so(rng, call, number, rng.below(ways)),
         None => wrong_length(rng, call, rng.below(SLICES.len()), rng.below(LENGTH_WAYS)),
     }
 }
@@ -251,10 +283,10 @@ fn offend_so(rng: &Rng, call: &mut Call, number: u32, way: usize) {
             call.kinds[own] = 6;
         }
         7 => offend_checks(rng, call, way),
-        8 => {
+        17..=21 => {
             let all = call.flow.len();
             let entry = rng.pick(&[0, all - 1, rng.below(all)]);
-            wrong_reading(rng, call, entry, way);
+            wrong_reading(rng, call, entry, number, way);
         }
         _ => offend_fuels(rng, call, way),
     }
@@ -300,19 +332,16 @@ fn set_checks(call: &mut Call, instrument: usize, checks: &[Check]) {
     }
 }
 
-fn wrong_reading(rng: &Rng, call: &mut Call, i: usize, way: usize) {
-    match way {
-        0..=2 => call.flow[i] = [30_001, 65_534, rng.size(30_001, 65_534) as u16][way],
-        3..=5 => call.content[i] = [10_001, 65_534, rng.size(10_001, 65_534) as u16][way - 3],
-        6..=10 => call.temp[i] = [-4_001, 10_001, -32_767, 32_767, rng.between(-32_767, -4_001) as i16][way - 6],
-        11..=15 => call.press[i] = [1, 49_999, 300_001, u32::MAX, 65_536 * rng.size(5, 65_535) as u32][way - 11],
-        16..=18 => call.status[i] = [4, 255, rng.pick(&[rng.size(4, 255), 128 + rng.below(4)]) as u8][way - 16],
-        19 => call.flow[i] = 30_000,
-        20 => call.content[i] = 10_000,
-        21..=22 => call.temp[i] = [-4_000, 10_000][way - 21],
-        23..=24 => call.press[i] = [50_000, 300_000][way - 23],
-        25 => call.status[i] = 3,
-        _ => (call.flow[i], call.content[i], call.temp[i], call.press[i]) = (65_535, 65_535, -32_768, 0),
+/// The last ways of each series are right: the ends of its range and its missing mark.
+fn wrong_reading(rng: &Rng, call: &mut Call, i: usize, number: u32, way: usize) {
+    let cold = rng.between(-32_767, -4_001) as i16;
+    let high = 65_536 * rng.size(5, 65_535) as u32;
+    match number {
+        17 => call.flow[i] = [30_001, 65_534, rng.size(30_001, 65_534) as u16, 30_000, 65_535][way],
+        18 => call.content[i] = [10_001, 65_534, rng.size(10_001, 65_534) as u16, 10_000, 65_535][way],
+        19 => call.temp[i] = [-4_001, 10_001, -32_767, 32_767, cold, -4_000, 10_000, -32_768][way],
+        20 => call.press[i] = [1, 49_999, 300_001, u32::MAX, high, 50_000, 300_000, 0][way],
+        _ => call.status[i] = [4, 255, rng.pick(&[rng.size(4, 255), 128 + rng.below(4)]) as u8, 3][way],
     }
 }
 
