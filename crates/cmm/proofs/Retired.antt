@@ -1,10 +1,11 @@
--- No call's answer has the number 8, which is given up (rule 4.8), and no exported function gives it.
+-- No call's answer has the number 8, which is given up (rule 4.8): no exported function gives it, and no report prints it.
 -- Assumes nothing.
 use Prim.Native.Nat.{ℕ}
 use mathlib.Core.Path.{_≡_, sym, _∙_}
 use mathlib.Core.List.{List}
 use native.Mathlib.Omega.{arith}
-use Rattle.refusals.specs.Table.{never-eight, verdict-never-eight}
+use Rattle.refusals.specs.declared.Told.{Told}
+use Rattle.refusals.specs.Table.{toldOf, never-eight, verdict-never-eight}
 use Rattle.drainage_judge.specs.Call.{Call}
 use Rattle.drainage_devices.specs.Devices.{Results}
 use Rattle.figures.specs.declared.Figures.{Figures}
@@ -21,6 +22,9 @@ use Rattle.drainage_record_form.specs.Rows as Record
 use Rattle.drainage_record.specs.Read as Reader
 use Rattle.drainage_record.specs.declared.ReadAnswer as RecordType
 use Rattle.drainage_record.specs.declared.ReadAnswer.the-variants as RecordAnswer
+use Rattle.sheet_text.specs.Sheet.{textOf}
+use Rattle.drainage_report.specs.Quantified.{answerTo}
+use Rattle.drainage_report.specs.Report.{refusalText, printed, Lent, outputOf}
 use Rattle.cmm.specs.Exported.{Arrays, Quantified, SheetWritten, SheetRead, RecordRead, FlowRead}
 
 -- ---- of each answer that is an enum: three zeros, or a refusal's
@@ -41,20 +45,34 @@ pub record-never-eight : (a : RecordType.ReadAnswer) → Reader.toldIn a .number
 record-never-eight (RecordAnswer.Record h) e = omega arith
 record-never-eight (RecordAnswer.Refused r) e = never-eight r e
 
+-- ---- of what is printed: a sheet, or the three lines of another number
+
+pub data NotEight : List ℕ → Type 0 where
+  sheet : (f : Figures) → NotEight (textOf f)
+  refusal : (t : Told) → (t .number ≡ 8 → ⊥) → NotEight (refusalText t)
+
+printed-no-eight : (a : Answer) → NotEight (printed a)
+printed-no-eight (Answer.Accepted f) = NotEight.sheet f
+printed-no-eight (Answer.Refused r) = NotEight.refusal (toldOf r) (never-eight r)
+
+pub report-no-eight : (a : RecordType.ReadAnswer) (rows : Record.Rows) (l : Lent) → NotEight (outputOf a rows l)
+report-no-eight (RecordAnswer.Record h) rows l = printed-no-eight (answerTo h rows (l .results))
+report-no-eight (RecordAnswer.Refused r) rows l = NotEight.refusal (toldOf r) (never-eight r)
+
 -- ---- of each exported function that gives a number
 
 module _ (n : ℕ) (e : n ≡ 8) where
-  pub quantified-gives : (c : Call) (before after : Results) (old new : Arrays) (at : List ℕ) → Quantified c before after old new at n → ⊥
-  quantified-gives c before after old new at x = quantify-never-eight (x .answer) (sym (x .told) ∙ e)
+  pub quantified-no-eight : (c : Call) (before after : Results) (old new : Arrays) (at : List ℕ) → Quantified c before after old new at n → ⊥
+  quantified-no-eight c before after old new at x = quantify-never-eight (x .answer) (sym (x .told) ∙ e)
 
-  pub written-gives : (f : Figures) (old new size : List ℕ) → SheetWritten f old new size n → ⊥
-  written-gives f old new size x = write-never-eight (x .answer) (sym (x .told) ∙ e)
+  pub written-no-eight : (f : Figures) (old new size : List ℕ) → SheetWritten f old new size n → ⊥
+  written-no-eight f old new size x = write-never-eight (x .answer) (sym (x .told) ∙ e)
 
-  pub sheet-read-gives : (t : List ℕ) (old new : Arrays) (offset : List ℕ) → SheetRead t old new offset n → ⊥
-  sheet-read-gives t old new offset x = read-never-eight (x .answer) (sym (x .told) ∙ e)
+  pub sheet-read-no-eight : (t : List ℕ) (old new : Arrays) (offset : List ℕ) → SheetRead t old new offset n → ⊥
+  sheet-read-no-eight t old new offset x = read-never-eight (x .answer) (sym (x .told) ∙ e)
 
-  pub record-read-gives : (t : List ℕ) (before after : Record.Rows) (old new line : List ℕ) → RecordRead t before after old new line n → ⊥
-  record-read-gives t before after old new line x = record-never-eight (x .answer) (sym (x .told) ∙ e)
+  pub record-read-no-eight : (t : List ℕ) (before after : Record.Rows) (old new line : List ℕ) → RecordRead t before after old new line n → ⊥
+  record-read-no-eight t before after old new line x = record-never-eight (x .answer) (sym (x .told) ∙ e)
 
-  pub flow-read-gives : (t before after at : List ℕ) → FlowRead t before after at n → ⊥
-  flow-read-gives t before after at x = verdict-never-eight (x .answer) (sym (x .told) ∙ e)
+  pub flow-read-no-eight : (t before after at : List ℕ) → FlowRead t before after at n → ⊥
+  flow-read-no-eight t before after at x = verdict-never-eight (x .answer) (sym (x .told) ∙ e)

@@ -1,4 +1,4 @@
--- Refusals that compute: calls of two devices and three intervals in which one or two things are wrong.
+-- Refusals that compute: calls of two devices and three intervals in which some things are wrong.
 -- Assumes nothing.
 use Prim.Native.Nat.{ℕ}
 use mathlib.Core.Path.{_≡_, refl}
@@ -21,7 +21,7 @@ use Rattle.drainage_readings.specs.Readings.{columnRight, wrongReading, wrongCo
 use Rattle.drainage_judge.specs.Call.{Call}
 use Rattle.drainage_judge.specs.Order.{lengthsOf, judged}
 
--- of which the mine, the kinds, the check counts, the first positions of device 0, the series and the fuel lines are given
+-- such a call, by its mine, its kinds, its check counts, the first positions of device 0, its series and its fuel lines
 abbrev lent : ℕ → List ℕ → List ℕ → List ℕ → Series → ℕ → Call
 lent mine kinds counts early series fuels =
     record {
@@ -37,7 +37,7 @@ lent mine kinds counts early series fuels =
       content-row-length = 6;
     }
 
--- most examples vary the flow alone of the series
+-- and by the flow alone of its series, which is what most examples vary
 abbrev sample : ℕ → List ℕ → List ℕ → List ℕ → List ℕ → ℕ → Call
 sample mine kinds counts early flow fuels =
     lent mine kinds counts early (seriesOf flow (build 6 (λ k. mark)) (build 6 (λ k. negsuc 32767)) (build 6 (λ k. 101325)) (build 6 (λ k. 3))) fuels

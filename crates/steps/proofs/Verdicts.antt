@@ -47,7 +47,7 @@ module _ (s : Step) (ss : List Step) where
 
 -- ---- what a verdict means
 
-zero-is-one : _≡_ {A = ℕ} 0 1 → ⊥
+pub zero-is-one : _≡_ {A = ℕ} 0 1 → ⊥
 zero-is-one z = omega arith
 
 -- of a list that begins with s
