@@ -1,29 +1,58 @@
 -- Bounds of the volume's numbers, and what the crates above may cite of `methaneLitres`.
 -- Assumes nothing.
-use Prim.Native.Nat.{ℕ, _*_, _/_, _≤_}
-use mathlib.Core.Path.{_≡_, ap, _∙_}
+use Prim.Native.Nat.{ℕ, _*_, _/_, _^_, _≤_, _<_}
+use mathlib.Core.Path.{_≡_, ap, _∙_, subst}
 use native.Mathlib.Nat.{mul-le-mul, mul-le-mul-left, mul-le-mul-right, mul-div-le, le-trans, div-le-of-le-mul, zero-mul, zero-div}
 use native.Mathlib.Omega.{arith}
 use lib.IntN.{ℤ}
-use Rattle.protocol.specs.Ranges.{kelvinOf, contentMost}
+use Rattle.protocol.specs.Ranges.{kelvinOf, flowMost, contentMost}
 use Rattle.volume.specs.Volume.{litresOf, methaneOf, methaneLitres, Inside, litresMost}
+use Rattle.volume.proofs.Pair.{over, under, same-litres}
 
--- flow × 100 × 29,315 × pressure is at most 26,383,500,000,000,000
-pub over-most : (flow press : ℕ) → flow ≤ 30000 → press ≤ 300000 → flow * 100 * 29315 * press ≤ 26383500000000000
+-- flow × 117,260 × pressure is at most 1,055,340,000,000,000
+pub over-most : (flow press : ℕ) → flow ≤ flowMost → press ≤ 300000 → flow * over * press ≤ 1055340000000000
 over-most flow press a b =
-    let h : flow * 100 * 29315 * press ≤ 30000 * 100 * 29315 * 300000 = mul-le-mul (let z : flow * 100 * 29315 ≤ 30000 * 100 * 29315 = omega arith in z) b in
+    let h : flow * over * press ≤ 30000 * over * 300000 = mul-le-mul (let z : flow * over ≤ 30000 * over = omega arith in z) b in
     omega arith
 
--- a quotient q of that by k × 101,325
-quotient-most : (over k q : ℕ) → over ≤ 26383500000000000 → 23315 ≤ k → k * 101325 * q ≤ over → q ≤ 11168127
-quotient-most over k q a b h =
+-- a quotient q of that by k × 4,053
+quotient-most : (n k q : ℕ) → n ≤ 1055340000000000 → 23315 ≤ k → k * under * q ≤ n → q ≤ litresMost
+quotient-most n k q a b h =
     let z : 23315 * q ≤ k * q = mul-le-mul-right q b in
     omega arith
 
-pub litres-most : (flow k press : ℕ) → flow ≤ 30000 → 23315 ≤ k → press ≤ 300000 → flow * 100 * 29315 * press / (k * 101325) ≤ litresMost
+pub litres-most : (flow k press : ℕ) → flow ≤ flowMost → 23315 ≤ k → press ≤ 300000 → flow * over * press / (k * under) ≤ litresMost
 litres-most flow k press a b c =
-    quotient-most (flow * 100 * 29315 * press) k (flow * 100 * 29315 * press / (k * 101325)) (over-most flow press a c) b
-    (mul-div-le (flow * 100 * 29315 * press) (k * 101325))
+    quotient-most (flow * over * press) k (flow * over * press / (k * under)) (over-most flow press a c) b
+    (mul-div-le (flow * over * press) (k * under))
+
+-- the litres of rule 9.1 for any readings inside the ranges
+pub inside-most : (flow : ℕ) (temp : ℤ) (press : ℕ) → Inside flow temp press → litresOf flow temp press ≤ litresMost
+inside-most flow temp press i =
+    subst (λ (n : ℕ). n ≤ litresMost) (same-litres flow temp press)
+    (litres-most flow (kelvinOf temp) press (i .flow-most) (i .kelvin-least) (i .press-most))
+
+-- rule 9.15: the numbers that `litres` meets, what it is given and what it works out, each below 2^53
+pub record Small (flow : ℕ) (temp : ℤ) (press : ℕ) : Type 0 where
+  pub flow-small : flow < 2 ^ 53
+  pub press-small : press < 2 ^ 53
+  pub kelvin-small : kelvinOf temp < 2 ^ 53
+  pub scaled-small : flow * over < 2 ^ 53
+  pub over-small : flow * over * press < 2 ^ 53
+  pub under-small : kelvinOf temp * under < 2 ^ 53
+  pub litres-small : litresOf flow temp press < 2 ^ 53
+
+pub small : (flow : ℕ) (temp : ℤ) (press : ℕ) → Inside flow temp press → Small flow temp press
+small flow temp press i =
+    record {
+      flow-small = omega (arith, i .flow-most);
+      press-small = omega (arith, i .press-most);
+      kelvin-small = omega (arith, i .kelvin-most);
+      scaled-small = omega (arith, i .flow-most);
+      over-small = omega (arith, over-most flow press (i .flow-most) (i .press-most));
+      under-small = omega (arith, i .kelvin-most);
+      litres-small = omega (arith, inside-most flow temp press i);
+    }
 
 -- litres × content is at most 111,681,270,000
 pub product-most : (litres content : ℕ) → litres ≤ litresMost → content ≤ contentMost → litres * content ≤ 111681270000
@@ -45,8 +74,6 @@ no-flow content temp press =
 -- what any interval inside the ranges has
 pub methane-litres-most : (flow content : ℕ) (temp : ℤ) (press : ℕ) → Inside flow temp press → content ≤ contentMost → methaneLitres flow content temp press ≤
     litresMost
-unfolding methaneLitres methaneOf litresOf
+unfolding methaneLitres methaneOf
 methane-litres-most flow content temp press i h =
-    le-trans
-    (methane-most (litresOf flow temp press) content h)
-    (litres-most flow (kelvinOf temp) press (i .flow-most) (i .kelvin-least) (i .press-most))
+    le-trans (methane-most (litresOf flow temp press) content h) (inside-most flow temp press i)

@@ -5,13 +5,18 @@ ghost use Rattle.protocol.specs.Ranges.{contentMost};
 ghost use Rattle.volume.specs.Volume.{litresOf, methaneOf, methaneLitres, Inside, litresMost};
 use protocol::Protocol;
 
+// 100 × 29,315 / 101,325 with both sides divided by 25 (rule 9.15): no number of the correction then reaches 2^53.
+const OVER: u64 = 100 * Protocol::KELVIN / 25;
+
+const UNDER: u64 = Protocol::PASCAL / 25;
+
 // Litres at standard conditions. Ruled out: the result rounded up; reference pressure and temperature exchanged.
 pub fn litres(flow: u16, temp: i16, press: u32) -> u64
     requires { ⌜ Inside flow temp press ⌝ }
     ensures { λ r. ⌜ (r ≡ litresOf flow temp press) × (r ≤ litresMost) ⌝ }
 {
     let kelvin = protocol::kelvin(temp);
-    (flow as u64) * 100 * Protocol::KELVIN * (press as u64) / (kelvin * Protocol::PASCAL)
+    (flow as u64) * OVER * (press as u64) / (kelvin * UNDER)
 }
 
 // Litres of methane in so many litres of gas. Ruled out: rounded up or to the nearest; the content taken for thousandths.
