@@ -5,7 +5,7 @@ use crate::generate::{class, turn, Class};
 use crate::protocol::MOST_CHECKS;
 use crate::record::Record;
 use crate::rng::Rng;
-use crate::{gap_files, plain_files, sound_calls, wrong_calls};
+use crate::{gap_files, plain_files, sound_calls, whole_litres, wrong_calls};
 
 /// Takes the random source, the call's number in its class, and how many entries a record may have.
 #[derive(Clone, Copy)]
@@ -21,7 +21,7 @@ use Maker::{Lengths, Sound, Wrong};
 /// Enough for three devices with the longest gap that can be replaced, and its windows.
 const ROW: u64 = 4_000;
 
-const CLASSES: [Class<Maker>; 28] = [
+const CLASSES: [Class<Maker>; 29] = [
     class("small", 20, Sound(plain_files::small)),
     class("outcomes", 8, Sound(plain_files::outcomes)),
     class("month", 1, Sound(plain_files::month)),
@@ -37,6 +37,7 @@ const CLASSES: [Class<Maker>; 28] = [
     class("many checks", 5, Sound(sound_calls::many_checks)),
     class("volumes", 6, Sound(sound_calls::volumes)),
     class("lost by rounding", 6, Sound(sound_calls::lost_by_rounding)),
+    class("whole litres", 6, Sound(whole_litres::whole_litres)),
     class("most and least", 2, Sound(sound_calls::most_and_least)),
     class("years", 1, Sound(sound_calls::years)),
     class("sizes", 14, Wrong(wrong_calls::sizes)),

@@ -7,7 +7,7 @@ use crate::protocol::{MOST_DEVICES, MOST_INTERVALS};
 use crate::quantify::Quantified;
 use crate::refusal::{is_given, Refusal};
 use crate::refusals::READINGS;
-use crate::{damaged_sheets, generate, reading_kinds, report, sheet};
+use crate::{damaged_sheets, generate, litre_kinds, reading_kinds, report, sheet};
 use std::collections::BTreeMap;
 use std::path::Path;
 use std::sync::atomic::{AtomicUsize, Ordering};
@@ -61,6 +61,7 @@ pub fn sheet_kinds(quantified: &Quantified) -> Vec<String> {
     if quantified.figures.reduction_mg < 0 {
         kinds.push("sheet, negative".to_string());
     }
+    kinds.extend(litre_kinds::of_sheet(quantified));
     kinds
 }
 
@@ -72,11 +73,12 @@ pub fn record_kinds_wanted(row: u64) -> Vec<String> {
     [kinds, reading_kinds::wanted()].concat()
 }
 
-/// These refusals, every outcome, and a negative reduction.
+/// These refusals, every outcome, a negative reduction, and both sides of a whole litre.
 pub fn kinds_wanted(refusals: impl Iterator<Item = u32>) -> Vec<String> {
     let outcomes = (0..10).map(|outcome| format!("sheet, outcome {outcome}"));
     let negative = "sheet, negative".to_string();
-    refusals.map(|number| format!("refusal {number:2}")).chain(outcomes).chain([negative]).collect()
+    let refusals = refusals.map(|number| format!("refusal {number:2}"));
+    refusals.chain(outcomes).chain([negative]).chain(litre_kinds::wanted()).collect()
 }
 
 pub fn ask_sheet(seed: u64, number: usize) -> Asked {

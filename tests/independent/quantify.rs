@@ -10,6 +10,7 @@ use crate::tonnes::{balance, credits, litres, methane_litres, tonnes, Balance};
 
 pub struct Quantified {
     pub figures: Figures,
+    pub devices: Vec<Device>,
     pub rows: Vec<DeviceRows>,
     pub accounts: Vec<Account>,
 }
@@ -28,7 +29,7 @@ pub fn quantify(call: &Call) -> Result<Quantified, Refusal> {
     let devices: Vec<Device> = (0..call.devices as usize).map(|number| call.device(number)).collect();
     let rows: Vec<DeviceRows> = devices.iter().map(device_rows).collect();
     let accounts: Vec<Account> = devices.iter().zip(&rows).map(|(device, row)| account(device, row)).collect();
-    Ok(Quantified { figures: figures(call, &accounts), rows, accounts })
+    Ok(Quantified { figures: figures(call, &accounts), devices, rows, accounts })
 }
 
 fn account(device: &Device, row: &DeviceRows) -> Account {

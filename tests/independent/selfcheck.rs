@@ -11,7 +11,7 @@ use crate::record::{Check, Device, Fuel, Record};
 use crate::rng::Rng;
 use crate::tonnes::{balance, credits, litres, methane_litres, tonnes};
 use crate::{compare, draw, sheet};
-use crate::{selfcheck_calls, selfcheck_flow, selfcheck_historian};
+use crate::{selfcheck_calls, selfcheck_correction, selfcheck_flow, selfcheck_historian};
 use crate::{selfcheck_readings, selfcheck_texts, selfcheck_words};
 use std::fmt::Debug;
 
@@ -44,6 +44,7 @@ pub fn run() -> bool {
     longest_texts(&mut checks);
     selfcheck_texts::run(&mut checks);
     selfcheck_calls::run(&mut checks);
+    selfcheck_correction::run(&mut checks);
     selfcheck_readings::run(&mut checks);
     selfcheck_words::run(&mut checks);
     selfcheck_historian::run(&mut checks);

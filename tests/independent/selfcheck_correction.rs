@@ -1,0 +1,200 @@
+//! The part of the self-check about the flow correction: document 02's pair 117,260 / 4,053 against document 01's
+//! equation, in whole numbers and as a spreadsheet works it; readings on both sides of a whole litre; and that every
+//! side has its turn.
+
+use crate::call::Call;
+use crate::litre_kinds::{of_sheet, wanted};
+use crate::quantify::quantify;
+use crate::rng::Rng;
+use crate::selfcheck::Checks;
+use crate::tonnes::{litres, methane_litres};
+use crate::whole_litres::Side::{Above, Below, On};
+use crate::whole_litres::{large_reading, pressure, reading, whole_litres};
+use crate::whole_litres::{Reading, LARGE, NEAREST, PAIR, PRESSURES, SIDES};
+use std::collections::BTreeSet;
+
+pub fn run(checks: &mut Checks) {
+    pair(checks);
+    let rng = Rng::new(3, 0);
+    for one in [corners(), drawn(&rng, 200_000), beside_litres(checks, &rng, 1_000)].concat() {
+        all_ways(checks, one, rng.size(0, 10_000) as u16);
+    }
+    one_too_high(checks);
+    more_too_high(checks, &rng, 500);
+    nearest(checks, &rng);
+    for seed in 0..50 {
+        in_turn(checks, seed);
+    }
+}
+
+/// Up to here every whole number is a binary64.
+const EXACT: u64 = 1 << 53;
+
+/// Numbers below this have at most 15 digits.
+const FIFTEEN_DIGITS: u64 = 1_000_000_000_000_000;
+
+/// The pair is document 01's fraction, cut down by 25, and so are the largest numbers.
+fn pair(checks: &mut Checks) {
+    checks.same("25 times the pair", (25 * PAIR.0, 25 * PAIR.1), (100 * 29_315, 101_325));
+    let largest = 30_000 * PAIR.0 * 300_000;
+    checks.same("the largest product", (largest, largest < EXACT), (1_055_340_000_000_000, true));
+    let earlier = 30_000 * 100 * 29_315 * 300_000;
+    checks.same("document 01's largest product", (earlier, earlier < EXACT), (26_383_500_000_000_000, false));
+}
+
+/// Every end of a range with every other, and what lies beside them.
+fn corners() -> Vec<Reading> {
+    let mut readings = vec![];
+    for flow in [0, 1, 2, 29_999, 30_000] {
+        for temp in [-4_000, -3_999, -1, 0, 1, 2_000, 9_999, 10_000] {
+            for press in [50_000, 50_001, 101_324, 101_325, 101_326, 299_999, 300_000] {
+                readings.push(Reading { flow, temp, press });
+            }
+        }
+    }
+    readings
+}
+
+fn drawn(rng: &Rng, count: usize) -> Vec<Reading> {
+    let draw = |_| Reading {
+        flow: rng.size(0, 30_000) as u16,
+        temp: rng.between(-4_000, 10_000) as i16,
+        press: rng.size(50_000, 300_000) as u32,
+    };
+    (0..count).map(draw).collect()
+}
+
+/// So many on a whole litre, and on each side of one a few parts from it and as near as any flow can be.
+fn beside_litres(checks: &mut Checks, rng: &Rng, count: usize) -> Vec<Reading> {
+    let mut readings = vec![];
+    for _ in 0..count {
+        let [on, above, below] = [On, Above(9), Below(9)].map(|side| reading(rng, side));
+        let few = (1..=9).contains(&above.remainder()) && (1..=9).contains(&below.lacking());
+        checks.same("sides of a litre", (on.remainder(), few), (0, true));
+        readings.extend([on, above, below, reading(rng, Above(NEAREST)), reading(rng, Below(NEAREST))]);
+    }
+    readings
+}
+
+/// The litres of the pair, in whole numbers, and the largest number met: the next multiple of the divisor shows that
+/// no greater quotient would do.
+fn by_pair(one: Reading) -> (u64, u64) {
+    let product = one.flow as u64 * PAIR.0;
+    let above = product * one.press as u64;
+    let below = (one.temp as i64 + 27_315) as u64 * PAIR.1;
+    let quotient = above / below;
+    let largest = [product, above, below, quotient, (quotient + 1) * below].into_iter().max();
+    (quotient, largest.unwrap())
+}
+
+/// A spreadsheet's single quotient; INT is rounding down, with or without something before it.
+fn single_quotient(one: Reading, int: fn(f64) -> f64) -> u64 {
+    let above = one.flow as f64 * 117_260.0 * one.press as f64;
+    int(above / ((one.temp as f64 + 27_315.0) * 4_053.0)) as u64
+}
+
+/// A spreadsheet's cells E to J, in whole numbers, and the largest number in them and between them.
+fn long_division(one: Reading, ch4: u16) -> ([u64; 6], u64) {
+    let (press, ch4) = (one.press as u64, ch4 as u64);
+    let e = one.flow as u64 * 117_260;
+    let f = (one.temp as i64 + 27_315) as u64 * 4_053;
+    let g = e / f;
+    let h = e - g * f;
+    let i = g * press + h * press / f;
+    let j = i * ch4 / 10_000;
+    let largest = [e, f, g * f, h * press, g * press, i, i * ch4].into_iter().max();
+    ([e, f, g, h, i, j], largest.unwrap())
+}
+
+/// The same cells as a spreadsheet has them, in binary64.
+fn spreadsheet(one: Reading, ch4: u16, int: fn(f64) -> f64) -> [u64; 6] {
+    let (press, ch4) = (one.press as f64, ch4 as f64);
+    let e = one.flow as f64 * 117_260.0;
+    let f = (one.temp as f64 + 27_315.0) * 4_053.0;
+    let g = int(e / f);
+    let h = e - g * f;
+    let i = g * press + int(h * press / f);
+    let j = int(i * ch4 / 10_000.0);
+    [e, f, g, h, i, j].map(|cell| cell as u64)
+}
+
+/// INT of spreadsheet programs that round to 15 digits first.
+fn int_of_15_digits(number: f64) -> f64 {
+    format!("{number:.14e}").parse::<f64>().unwrap().floor()
+}
+
+/// Document 01's equation, the pair and the spreadsheet's cells give the same litres, all by small numbers.
+fn all_ways(checks: &mut Checks, one: Reading, ch4: u16) {
+    let name = format!("{one:?}, CH4 {ch4}");
+    let right = litres(one.flow, one.temp, one.press);
+    let (quotient, largest) = by_pair(one);
+    let (cells, largest_cell) = long_division(one, ch4);
+    let ways = [quotient, one.quotient(), single_quotient(one, f64::floor), cells[4]].map(i128::from);
+    checks.same(&name, ways, [right; 4]);
+    checks.same(&name, cells[5] as i128, methane_litres(right, ch4));
+    checks.same(&name, [f64::floor, int_of_15_digits].map(|int| spreadsheet(one, ch4, int)), [cells; 2]);
+    checks.same(&name, (largest < EXACT, largest_cell < FIFTEEN_DIGITS), (true, true));
+}
+
+/// A reading one part short of a whole litre: a single quotient of 15 digits does not show that it is short.
+fn one_too_high(checks: &mut Checks) {
+    let one = Reading { flow: 29_633, temp: -3_998, press: 298_817 };
+    let worked = (one.quotient(), one.remainder(), one.divisor());
+    checks.same("one part short", worked, (10_987_060, 94_503_800, 94_503_801));
+    checks.same("one part short, 15 digits", single_quotient(one, int_of_15_digits), 10_987_061);
+    all_ways(checks, one, 10_000);
+}
+
+fn rounded(above: u128, below: u128) -> u128 {
+    (2 * above + below) / (2 * below)
+}
+
+/// The same quotient in whole numbers, where it has eight digits before the point: a binary64 keeps 29 bits after the
+/// point there, and 15 digits are seven decimals.
+fn single_quotient_of_15_digits(one: Reading) -> u64 {
+    let binary = rounded((one.product() as u128) << 29, one.divisor() as u128);
+    (rounded(binary * 10_000_000, 1 << 29) / 10_000_000) as u64
+}
+
+/// More of that sort: up to four parts short the single quotient is one too high, five parts short where 15 digits say
+/// so, and the long division never is.
+fn more_too_high(checks: &mut Checks, rng: &Rng, count: usize) {
+    let mut met = BTreeSet::new();
+    for _ in 0..count {
+        let one = large_reading(rng, Below(5));
+        let (right, given) = (one.quotient(), single_quotient(one, int_of_15_digits));
+        checks.same("eight digits", right >= LARGE, true);
+        checks.same("15 digits, two ways", given, single_quotient_of_15_digits(one));
+        all_ways(checks, one, 10_000);
+        met.insert((one.lacking(), given - right));
+    }
+    let all = BTreeSet::from([(1, 1), (2, 1), (3, 1), (4, 1), (5, 0), (5, 1)]);
+    checks.same("parts short of a litre, and litres too high", met, all);
+}
+
+/// The pressure that is solved for, against all pressures there are.
+fn nearest(checks: &mut Checks, rng: &Rng) {
+    for one in drawn(rng, 40) {
+        let at = |press: u32| Reading { press, ..one };
+        let all: Vec<u64> = (50_000..=300_000).map(|press| at(press).remainder()).collect();
+        let others = || all.iter().copied().filter(|&remainder| remainder > 0);
+        let given = |side| pressure(rng, one.flow, one.temp, side, PRESSURES).map(|press| at(press).remainder());
+        checks.same("on a litre", given(On), all.contains(&0).then_some(0));
+        checks.same("above a litre", given(Above(NEAREST)), others().min());
+        checks.same("below a litre", given(Below(NEAREST)), others().max());
+    }
+}
+
+/// One turn of the class has every kind that is wanted of it.
+fn in_turn(checks: &mut Checks, seed: u64) {
+    let mut met = BTreeSet::new();
+    for case in 0..SIDES {
+        let record = whole_litres(&Rng::new(seed, case as u64), case, 4_000);
+        let quantified = quantify(&Call::of(&record)).unwrap();
+        let all = quantified.rows.iter().all(|row| row.outcome.iter().all(|&outcome| outcome == 0));
+        checks.same("all are counted", all, true);
+        met.extend(of_sheet(&quantified));
+    }
+    let lacking: Vec<String> = wanted().into_iter().filter(|kind| !met.contains(kind)).collect();
+    checks.same("kinds that a turn lacks", lacking, vec![]);
+}
