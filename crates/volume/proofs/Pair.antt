@@ -16,15 +16,15 @@ over = 117260
 abbrev pub under : ℕ
 under = 4053
 
--- the pair has no numbers of its own: 25 times it is the 100 litres of a flow's unit at the reference conditions
+-- the pair has no numbers of its own: 25 times it is the reference conditions, with the 100 litres of a unit of flow
 pub over-tied : 25 * over ≡ 100 * protocol .kelvin
 over-tied = refl
 
 pub under-tied : 25 * under ≡ protocol .pascal
 under-tied = refl
 
--- both quotients are the same number of litres, for every flow, temperature and pressure; nothing needs to be in range.
--- (Where there is no temperature above absolute zero, `kelvinOf` is 0 and so is the logic's quotient by it.)
+-- the litres worked with the pair are rule 9.1's, for every flow, temperature and pressure, in range or not (at absolute
+-- zero and below both are the logic's quotient by 0)
 pub same-litres : (flow : ℕ) (temp : ℤ) (press : ℕ) → flow * over * press / (kelvinOf temp * under) ≡ litresOf flow temp press
 unfolding litresOf
 same-litres flow temp press =

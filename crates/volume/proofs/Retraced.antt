@@ -27,6 +27,7 @@ cellH flow temp = cellE flow - cellG flow temp * cellF temp
 abbrev pub cellI : ℕ → ℤ → ℕ → ℕ
 cellI flow temp press = cellG flow temp * press + cellH flow temp * press / cellF temp
 
+-- the product over quotient and remainder
 spread : (q r d p : ℕ) → q * p * d + r * p ≡ (r + q * d) * p
 spread q r d p = omega arith
 
@@ -39,10 +40,26 @@ divided-first e d p above =
 -- the litres of I are rule 9.1's, for every flow and pressure and every temperature above absolute zero
 pub retraced : (flow : ℕ) (temp : ℤ) (press : ℕ) → 0 < kelvinOf temp → cellI flow temp press ≡ litresOf flow temp press
 retraced flow temp press above =
-    divided-first (cellE flow) (cellF temp) press (let z : 0 < kelvinOf temp * 4053 = omega (arith, above) in z)
+    divided-first (cellE flow) (cellF temp) press (omega (arith, above))
     ∙ same-litres flow temp press
 
--- what stands in the cells, and the two products inside I, for readings inside the ranges
+-- a remainder is below its divisor
+remainder-less : (e d : ℕ) → 0 < d → e - e / d * d < d
+remainder-less e d above = let z : e < e / d * d + d = lt-div-mul-add above in omega arith
+
+-- H is below the largest divisor, and I is no more than the most litres
+h-most : (flow : ℕ) (temp : ℤ) (press : ℕ) → Inside flow temp press → cellH flow temp ≤ 151237695
+h-most flow temp press i =
+    let less : cellH flow temp < cellF temp = remainder-less (cellE flow) (cellF temp) (omega (arith, i .kelvin-least)) in
+    omega (arith, less, i .kelvin-most)
+
+i-most : (flow : ℕ) (temp : ℤ) (press : ℕ) → Inside flow temp press → cellI flow temp press ≤ litresMost
+i-most flow temp press i =
+    subst (λ (n : ℕ). n ≤ litresMost)
+    (sym (retraced flow temp press (omega (arith, i .kelvin-least))))
+    (inside-most flow temp press i)
+
+-- what stands in the cells, and the two products inside I
 pub record Digits (flow : ℕ) (temp : ℤ) (press : ℕ) : Type 0 where
   pub e-digits : cellE flow < 10 ^ 14
   pub f-digits : cellF temp < 10 ^ 14
@@ -52,24 +69,15 @@ pub record Digits (flow : ℕ) (temp : ℤ) (press : ℕ) : Type 0 where
   pub rest-digits : cellH flow temp * press < 10 ^ 14
   pub i-digits : cellI flow temp press < 10 ^ 14
 
--- a remainder is below its divisor
-remainder-less : (e d : ℕ) → 0 < d → e - e / d * d < d
-remainder-less e d above = let z : e < e / d * d + d = lt-div-mul-add above in omega arith
-
 pub digits : (flow : ℕ) (temp : ℤ) (press : ℕ) → Inside flow temp press → Digits flow temp press
 digits flow temp press i =
-    let above : 0 < kelvinOf temp = omega (arith, i .kelvin-least) in
-    let least : cellH flow temp < cellF temp = remainder-less (cellE flow) (cellF temp) (let z : 0 < kelvinOf temp * 4053 = omega (arith, above) in z) in
-    let h : cellH flow temp ≤ 151237695 = omega (arith, least, i .kelvin-most) in
-    let rest : cellH flow temp * press ≤ 151237695 * 300000 = mul-le-mul h (i .press-most) in
-    let litres : cellI flow temp press ≤ litresMost = subst (λ (n : ℕ). n ≤ litresMost) (sym (retraced flow temp press above)) (inside-most flow temp press i) in
-    let g : cellG flow temp ≤ cellE flow = div-le-self (cellE flow) (cellF temp) in
+    let rest : cellH flow temp * press ≤ 151237695 * 300000 = mul-le-mul (h-most flow temp press i) (i .press-most) in
     record {
       e-digits = omega (arith, i .flow-most);
       f-digits = omega (arith, i .kelvin-most);
-      g-digits = omega (arith, g, i .flow-most);
-      h-digits = omega (arith, h);
-      whole-digits = omega (arith, litres);
+      g-digits = omega (arith, div-le-self (cellE flow) (cellF temp), i .flow-most);
+      h-digits = omega (arith, h-most flow temp press i);
+      whole-digits = omega (arith, i-most flow temp press i);
       rest-digits = omega (arith, rest);
-      i-digits = omega (arith, litres);
+      i-digits = omega (arith, i-most flow temp press i);
     }
