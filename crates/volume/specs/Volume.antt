@@ -46,7 +46,7 @@ at-most : litresOf 30000 (negsuc 3999) 300000 ≡ litresMost
 unfolding litresOf
 at-most = refl
 
--- rule 9.15: a quotient as near below a whole number as one can be, the remainder being one short of the divisor
+-- rule 9.15: a quotient just below a whole number, the remainder being one short of the divisor
 one-short : litresOf 29633 (negsuc 3997) 298817 ≡ 10987060
 unfolding litresOf
 one-short = refl
