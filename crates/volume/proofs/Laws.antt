@@ -21,16 +21,12 @@ quotient-most n k q a b h =
     let z : 23315 * q ≤ k * q = mul-le-mul-right q b in
     omega arith
 
-pub litres-most : (flow k press : ℕ) → flow ≤ flowMost → 23315 ≤ k → press ≤ 300000 → flow * over * press / (k * under) ≤ litresMost
-litres-most flow k press a b c =
-    quotient-most (flow * over * press) k (flow * over * press / (k * under)) (over-most flow press a c) b
-    (mul-div-le (flow * over * press) (k * under))
-
--- the litres of rule 9.1 for any readings inside the ranges
-pub inside-most : (flow : ℕ) (temp : ℤ) (press : ℕ) → Inside flow temp press → litresOf flow temp press ≤ litresMost
-inside-most flow temp press i =
+-- the litres of rule 9.1, worked with the pair
+pub litres-most : (flow : ℕ) (temp : ℤ) (press : ℕ) → Inside flow temp press → litresOf flow temp press ≤ litresMost
+litres-most flow temp press i =
     subst (λ (n : ℕ). n ≤ litresMost) (same-litres flow temp press)
-    (litres-most flow (kelvinOf temp) press (i .flow-most) (i .kelvin-least) (i .press-most))
+    (quotient-most (flow * over * press) (kelvinOf temp) (flow * over * press / (kelvinOf temp * under))
+    (over-most flow press (i .flow-most) (i .press-most)) (i .kelvin-least) (mul-div-le (flow * over * press) (kelvinOf temp * under)))
 
 -- rule 9.15: the numbers that `litres` meets, what it is given and what it works out, each below 2^53
 pub record Small (flow : ℕ) (temp : ℤ) (press : ℕ) : Type 0 where
@@ -51,7 +47,7 @@ small flow temp press i =
       scaled-small = omega (arith, i .flow-most);
       over-small = omega (arith, over-most flow press (i .flow-most) (i .press-most));
       under-small = omega (arith, i .kelvin-most);
-      litres-small = omega (arith, inside-most flow temp press i);
+      litres-small = omega (arith, litres-most flow temp press i);
     }
 
 -- litres × content is at most 111,681,270,000
@@ -76,4 +72,4 @@ pub methane-litres-most : (flow content : ℕ) (temp : ℤ) (press : ℕ) → In
     litresMost
 unfolding methaneLitres methaneOf
 methane-litres-most flow content temp press i h =
-    le-trans (methane-most (litresOf flow temp press) content h) (inside-most flow temp press i)
+    le-trans (methane-most (litresOf flow temp press) content h) (litres-most flow temp press i)

@@ -1,17 +1,17 @@
--- rule 9.15: the formula that README.md gives for a spreadsheet. It gives rule 9.1's litres, and the numbers in its cells
--- have 14 digits or fewer.
+-- rule 9.15: the formula that README.md gives for a spreadsheet. It gives the litres of rules 9.1 and 9.2, and no number
+-- in it has more than 14 digits.
 -- Assumes nothing.
 use Prim.Native.Nat.{ℕ, _+_, _-_, _*_, _/_, _^_, _≤_, _<_}
 use mathlib.Core.Path.{_≡_, sym, ap, _∙_, subst}
 use native.Mathlib.Nat.{sub-add-cancel, div-mul-le-self, mul-add-div-right, lt-div-mul-add, mul-le-mul, div-le-self}
 use native.Mathlib.Omega.{arith}
 use lib.IntN.{ℤ}
-use Rattle.protocol.specs.Ranges.{kelvinOf}
-use Rattle.volume.specs.Volume.{litresOf, Inside, litresMost}
-use Rattle.volume.proofs.Laws.{inside-most}
+use Rattle.protocol.specs.Ranges.{kelvinOf, contentMost}
+use Rattle.volume.specs.Volume.{litresOf, methaneOf, methaneLitres, Inside, litresMost}
+use Rattle.volume.proofs.Laws.{litres-most, product-most, methane-most}
 use Rattle.volume.proofs.Pair.{over, under, same-litres}
 
--- E, F, G, H and I of README.md, for the flow, the temperature and the pressure in A, C and D
+-- E to J of README.md, for the flow, the content, the temperature and the pressure in A to D
 abbrev pub cellE : ℕ → ℕ
 cellE flow = flow * over
 
@@ -26,6 +26,9 @@ cellH flow temp = cellE flow - cellG flow temp * cellF temp
 
 abbrev pub cellI : ℕ → ℤ → ℕ → ℕ
 cellI flow temp press = cellG flow temp * press + cellH flow temp * press / cellF temp
+
+abbrev pub cellJ : ℕ → ℕ → ℤ → ℕ → ℕ
+cellJ flow content temp press = cellI flow temp press * content / 10000
 
 -- the product over quotient and remainder
 spread : (q r d p : ℕ) → q * p * d + r * p ≡ (r + q * d) * p
@@ -43,6 +46,11 @@ retraced flow temp press above =
     divided-first (cellE flow) (cellF temp) press (omega (arith, above))
     ∙ same-litres flow temp press
 
+-- and the methane litres of J are rule 9.2's
+pub retraced-methane : (flow content : ℕ) (temp : ℤ) (press : ℕ) → 0 < kelvinOf temp → cellJ flow content temp press ≡ methaneLitres flow content temp press
+unfolding methaneLitres methaneOf
+retraced-methane flow content temp press above = ap (λ (n : ℕ). n * content / 10000) (retraced flow temp press above)
+
 -- a remainder is below its divisor
 remainder-less : (e d : ℕ) → 0 < d → e - e / d * d < d
 remainder-less e d above = let z : e < e / d * d + d = lt-div-mul-add above in omega arith
@@ -57,10 +65,10 @@ i-most : (flow : ℕ) (temp : ℤ) (press : ℕ) → Inside flow temp press → 
 i-most flow temp press i =
     subst (λ (n : ℕ). n ≤ litresMost)
     (sym (retraced flow temp press (omega (arith, i .kelvin-least))))
-    (inside-most flow temp press i)
+    (litres-most flow temp press i)
 
--- what stands in the cells, and the two products inside I
-pub record Digits (flow : ℕ) (temp : ℤ) (press : ℕ) : Type 0 where
+-- what stands in the cells, and the products inside I and J
+pub record Digits (flow content : ℕ) (temp : ℤ) (press : ℕ) : Type 0 where
   pub e-digits : cellE flow < 10 ^ 14
   pub f-digits : cellF temp < 10 ^ 14
   pub g-digits : cellG flow temp < 10 ^ 14
@@ -68,9 +76,11 @@ pub record Digits (flow : ℕ) (temp : ℤ) (press : ℕ) : Type 0 where
   pub whole-digits : cellG flow temp * press < 10 ^ 14
   pub rest-digits : cellH flow temp * press < 10 ^ 14
   pub i-digits : cellI flow temp press < 10 ^ 14
+  pub methane-digits : cellI flow temp press * content < 10 ^ 14
+  pub j-digits : cellJ flow content temp press < 10 ^ 14
 
-pub digits : (flow : ℕ) (temp : ℤ) (press : ℕ) → Inside flow temp press → Digits flow temp press
-digits flow temp press i =
+pub digits : (flow content : ℕ) (temp : ℤ) (press : ℕ) → Inside flow temp press → content ≤ contentMost → Digits flow content temp press
+digits flow content temp press i h =
     let rest : cellH flow temp * press ≤ 151237695 * 300000 = mul-le-mul (h-most flow temp press i) (i .press-most) in
     record {
       e-digits = omega (arith, i .flow-most);
@@ -80,4 +90,6 @@ digits flow temp press i =
       whole-digits = omega (arith, i-most flow temp press i);
       rest-digits = omega (arith, rest);
       i-digits = omega (arith, i-most flow temp press i);
+      methane-digits = omega (arith, product-most (cellI flow temp press) content (i-most flow temp press i) h);
+      j-digits = omega (arith, i-most flow temp press i, methane-most (cellI flow temp press) content h);
     }

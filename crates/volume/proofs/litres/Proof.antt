@@ -1,10 +1,11 @@
 -- The products are below 2^53, so they fit 64 bits; the quotient is rule 9.1's, rounded down.
-use Prim.Native.Nat.{ℕ, _*_, _/_, _<_}
+use Prim.Native.Nat.{ℕ, _*_, _/_, _≤_, _<_}
 use mathlib.Core.Path.{_≡_, sym, ap, _∙_, subst}
 use lib.IntN.{ℤ}
 use native.Mathlib.Omega.{arith}
 use mir.Facts.{toZ-ofZ}
 use Rattle.protocol.specs.Ranges.{kelvinOf}
+use Rattle.volume.specs.Volume.{litresOf, litresMost}
 use Rattle.volume.proofs.Laws.{Small, small, litres-most}
 use Rattle.volume.proofs.Pair.{over, under, same-litres}
 use Rattle.volume.proofs.litres.Statement.{statement}
@@ -35,12 +36,18 @@ mul-result-3 c = record { fits = omega (arith, absolute c, below (c .before) .un
 div-result : tie.Need-div-result
 div-result c = omega (arith, absolute c, c .before .pre .kelvin-least)
 
+-- what the code gives is rule 9.1's litres
+right : (c : tie.After-kelvin) → c .before .args .flow * over * c .before .args .press / (c .kelvin .result * under) ≡
+    litresOf (c .before .args .flow) (c .before .args .temp) (c .before .args .press)
+right c =
+    ap (λ (k : ℕ). c .before .args .flow * over * c .before .args .press / (k * under)) (absolute c)
+    ∙ same-litres (c .before .args .flow) (c .before .args .temp) (c .before .args .press)
+
 returns : tie.Need-returns
 returns c = (
-  ap (λ (k : ℕ). c .before .args .flow * over * c .before .args .press / (k * under)) (absolute c)
-      ∙ same-litres (c .before .args .flow) (c .before .args .temp) (c .before .args .press),
-  litres-most (c .before .args .flow) (c .kelvin .result) (c .before .args .press) (c .before .pre .flow-most)
-      (omega (arith, absolute c, c .before .pre .kelvin-least)) (c .before .pre .press-most),
+  right c,
+  subst (λ (n : ℕ). n ≤ litresMost) (sym (right c))
+      (litres-most (c .before .args .flow) (c .before .args .temp) (c .before .args .press) (c .before .pre)),
 )
 
 pub litres-spec : {M : Type 1} → statement M
