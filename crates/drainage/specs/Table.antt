@@ -44,7 +44,7 @@ table =
     ∷ says (drifted (pos 500)) 952
     ∷ says (drifted (negsuc 599)) 1000
     ∷ says (meanOf (tallyOf (replicate 16 100 ++ replicate 16 101))) 100
-    ∷ says (limitOf (tallyOf (replicate 96 0 ++ replicate 96 2000)) z90) 881
+    ∷ says (limitOf (tallyOf (replicate 96 0 ++ replicate 96 2000)) z90) 880
     ∷ says (limitOf (tallyOf (replicate 191 0 ++ replicate 1 192)) z90) 0
     ∷ record { given = tonnesOf (negsuc 94405687); document = negsuc 0 }
     ∷ says (creditsOf (tonnesOf (negsuc 94405687))) 0

@@ -18,7 +18,7 @@ replaced w gap i = replacementAt (around w gap) (around w gap) i
 
 -- rule 7.5: 16 on either side up to 23, 96 up to 95, 288 up to 672, none from 673; rule 7.2: a window that is one short
 -- is not whole
-borders : (replaced 16 23 27 ≡ Replaced.by 1000) × (replaced 96 24 108 ≡ Replaced.by 881) × (replaced 96 95 143 ≡ Replaced.by 881) ×
+borders : (replaced 16 23 27 ≡ Replaced.by 1000) × (replaced 96 24 108 ≡ Replaced.by 880) × (replaced 96 95 143 ≡ Replaced.by 880) ×
     (replaced 288 96 336 ≡ Replaced.by 918)
     × (replaced 288 672 624 ≡ Replaced.by 918) × (replaced 288 673 300 ≡ Replaced.excluded tooLong) × (replaced 287 672 300 ≡ Replaced.excluded notWhole)
 unfolding replacementAt replacementOf gapStart gapEnd run whole usable classOf tallyOf meanOf limitOf meets greatestUpTo windowValues

@@ -1,5 +1,5 @@
--- Every product of the limit's condition fits 64 bits, bounded in stages: the largest, 100 × 576 × (S - nL)², is
--- 17,199,267,840,000,000,000.
+-- Every product of the limit's condition fits 64 bits, bounded in stages: the largest, 100 × 575 × (S - nL)², is
+-- 17,169,408,000,000,000,000.
 -- Assumes nothing.
 use Prim.Native.Nat.{ℕ, _-_, _*_, _≤_}
 use native.Mathlib.Nat.{mul-le-mul}
@@ -19,12 +19,12 @@ count-squares n q a b =
 square : (s : ℕ) → s ≤ 17280000 → s * s ≤ 298598400000000
 square s h = let z : s * s ≤ 17280000 * 17280000 = mul-le-mul h h in omega arith
 
--- z2, at most 3.85, and the count, at most 576, times any of the squares
+-- z2, at most 3.85, and the count less one, at most 575, times any of the squares
 times-z : (z x : ℕ) → z ≤ z95 → x ≤ 298598400000000 → z * x ≤ 114960384000000000
 times-z z x a b = let h : z * x ≤ 385 * 298598400000000 = mul-le-mul a b in omega arith
 
-times-count : (n x : ℕ) → n ≤ 576 → x ≤ 298598400000000 → n * x ≤ 171992678400000000
-times-count n x a b = let h : n * x ≤ 576 * 298598400000000 = mul-le-mul a b in omega arith
+times-count : (m x : ℕ) → m ≤ 575 → x ≤ 298598400000000 → m * x ≤ 171694080000000000
+times-count m x a b = let h : m * x ≤ 575 * 298598400000000 = mul-le-mul a b in omega arith
 
 module _ {t : Tally} (s : Sized t) where
   pub limit-fits : (l : ℕ) → l ≤ 30000 → t .n * l ≤ 17280000
@@ -47,5 +47,5 @@ module _ {t : Tally} (s : Sized t) where
   pub sum-fits-z : {z : ℕ} → z ≤ z95 → z * (t .sum * t .sum) ≤ 114960384000000000
   sum-fits-z {z} h = times-z z (t .sum * t .sum) h sum-fits
 
-  pub left-fits-n : (x : ℕ) → t .n * ((t .sum - x) * (t .sum - x)) ≤ 171992678400000000
-  left-fits-n x = times-count (t .n) ((t .sum - x) * (t .sum - x)) (s .few) (left-fits x)
+  pub left-fits-n : (x : ℕ) → (t .n - 1) * ((t .sum - x) * (t .sum - x)) ≤ 171694080000000000
+  left-fits-n x = times-count (t .n - 1) ((t .sum - x) * (t .sum - x)) (omega (arith, s .few)) (left-fits x)

@@ -54,7 +54,7 @@ module _ {t : Tally} {z low high : ℕ} (b : Between t z low high) (h : low + 1 
         z-most = b .z-most;
         order = halved low high h .1;
         most = b .most;
-        met = λ l. meets-true t z (low + (high - low) / 2) e;
+        met = λ l. meets-true t z (low + (high - low) / 2) (b .sized .some) e;
         missed = b .missed;
       }
 
@@ -66,10 +66,10 @@ module _ {t : Tally} {z low high : ℕ} (b : Between t z low high) (h : low + 1 
         order = halved low high h .0;
         most = le-trans middle-most (let z : 30000 ≤ 30001 = omega arith in z);
         met = b .met;
-        missed = meets-false t z (low + (high - low) / 2) e;
+        missed = meets-false t z (low + (high - low) / 2) (b .sized .some) e;
       }
 
 pub between-end : {t : Tally} {z low high : ℕ} → Between t z low high → high ≤ low + 1 → low ≡ limitOf t z
 between-end {t} {z} {low} {high} b h =
     limit-of t z low (b .sized .some)
-    (record { reached = b .met; greatest = λ M l m. b .missed (meets-below t z high M (omega arith) m) })
+    (record { reached = b .met; greatest = λ M l m. b .missed (meets-below t z high M (b .sized .some) (omega arith) m) })

@@ -123,13 +123,13 @@ left-is z p m =
     subst (λ (w : ℤ). Is w (p * z) (m * z)) (*ℤ-comm (pos p -ℤ pos m) (pos z))
     (is-times (pos p -ℤ pos m) z (record { is = let e = is-minus (pos p) (pos m) (is-pos p) (is-pos m) .is in omega arith }))
 
--- n × (S - nL) × (S - nL), once S is at least nL
-right-is : (n s m : ℕ) → m ≤ s
-    → (pos 100 *ℤ ((pos n *ℤ (pos s -ℤ pos m)) *ℤ (pos s -ℤ pos m))) ≡ pos (100 * (n * (s - m) * (s - m)))
-right-is n s m h = ap (λ (d : ℤ). pos 100 *ℤ ((pos n *ℤ d) *ℤ d)) (minus-pos s m h)
+-- (n - 1) × (S - nL) × (S - nL), once there is a value and S is at least nL
+right-is : (n s m : ℕ) → 0 < n → m ≤ s
+    → (pos 100 *ℤ (((pos n -ℤ pos 1) *ℤ (pos s -ℤ pos m)) *ℤ (pos s -ℤ pos m))) ≡ pos (100 * ((n - 1) * (s - m) * (s - m)))
+right-is n s m p h = ap₂ (λ (c d : ℤ). pos 100 *ℤ ((c *ℤ d) *ℤ d)) (minus-pos n 1 p) (minus-pos s m h)
 
--- the rule's form and the one with S² moved across say the same
-module _ (t : Tally) (z L : ℕ) where
+-- the rule's form and the one with S² moved across say the same of any values
+module _ (t : Tally) (z L : ℕ) (p : 0 < t .n) where
   pub meets-moved : Meets t z L → Moved t z L
   meets-moved c =
       let room : t .n * L ≤ t .sum =
@@ -139,8 +139,8 @@ module _ (t : Tally) (z L : ℕ) where
       moved : t .n * L ≤ t .sum → spreadOf t z ≤ allowedOf t z L
       moved room =
           let d : ℕ = t .sum - t .n * L in
-          let h = le-is _ _ (left-is z (t .n * t .squares) (t .sum * t .sum)) (is-pos (100 * (t .n * d * d)))
-          (subst (λ (w : ℤ). (pos z *ℤ (pos (t .n * t .squares) -ℤ pos (t .sum * t .sum))) ≤ℤ w) (right-is (t .n) (t .sum) (t .n * L) room) (c .spread)) in
+          let h = le-is _ _ (left-is z (t .n * t .squares) (t .sum * t .sum)) (is-pos (100 * ((t .n - 1) * d * d)))
+          (subst (λ (w : ℤ). (pos z *ℤ (pos (t .n * t .squares) -ℤ pos (t .sum * t .sum))) ≤ℤ w) (right-is (t .n) (t .sum) (t .n * L) p room) (c .spread)) in
           omega arith
 
   pub moved-meets : Moved t z L → Meets t z L
@@ -148,24 +148,24 @@ module _ (t : Tally) (z L : ℕ) where
       record {
         room = is-le (pos (t .n * L)) (pos (t .sum)) (is-pos (t .n * L)) (is-pos (t .sum)) (omega (arith, m .room));
         spread =
-            subst (λ (w : ℤ). (pos z *ℤ (pos (t .n * t .squares) -ℤ pos (t .sum * t .sum))) ≤ℤ w) (sym (right-is (t .n) (t .sum) (t .n * L) (m .room)))
-            (is-le _ _ (left-is z (t .n * t .squares) (t .sum * t .sum)) (is-pos (100 * (t .n * (t .sum - t .n * L) * (t .sum - t .n * L))))
+            subst (λ (w : ℤ). (pos z *ℤ (pos (t .n * t .squares) -ℤ pos (t .sum * t .sum))) ≤ℤ w) (sym (right-is (t .n) (t .sum) (t .n * L) p (m .room)))
+            (is-le _ _ (left-is z (t .n * t .squares) (t .sum * t .sum)) (is-pos (100 * ((t .n - 1) * (t .sum - t .n * L) * (t .sum - t .n * L))))
             (omega (arith, m .spread)));
       }
 
-pub meets-true : (t : Tally) (z L : ℕ) → meets t z L ≡ true → Meets t z L
+pub meets-true : (t : Tally) (z L : ℕ) → 0 < t .n → meets t z L ≡ true → Meets t z L
 unfolding meets
-meets-true t z L e =
+meets-true t z L p e =
     let h = both-true (leb (t .n * L) (t .sum)) (leb (spreadOf t z) (allowedOf t z L)) e in
-    moved-meets t z L (record { room = leb-true (t .n * L) (t .sum) (h .0); spread = leb-true (spreadOf t z) (allowedOf t z L) (h .1) })
+    moved-meets t z L p (record { room = leb-true (t .n * L) (t .sum) (h .0); spread = leb-true (spreadOf t z) (allowedOf t z L) (h .1) })
 
-pub meets-met : (t : Tally) (z L : ℕ) → Meets t z L → meets t z L ≡ true
+pub meets-met : (t : Tally) (z L : ℕ) → 0 < t .n → Meets t z L → meets t z L ≡ true
 unfolding meets
-meets-met t z L c =
-    let m = meets-moved t z L c in ap₂ both (le-leb (t .n * L) (t .sum) (m .room)) (le-leb (spreadOf t z) (allowedOf t z L) (m .spread))
+meets-met t z L p c =
+    let m = meets-moved t z L p c in ap₂ both (le-leb (t .n * L) (t .sum) (m .room)) (le-leb (spreadOf t z) (allowedOf t z L) (m .spread))
 
-pub meets-false : (t : Tally) (z L : ℕ) → meets t z L ≡ false → Meets t z L → ⊥
-meets-false t z L e m = clash (meets-met t z L m) e
+pub meets-false : (t : Tally) (z L : ℕ) → 0 < t .n → meets t z L ≡ false → Meets t z L → ⊥
+meets-false t z L p e m = clash (meets-met t z L p m) e
 
 -- the test, once it is known whether S is at least nL
 pub meets-short : (t : Tally) (z L : ℕ) → t .sum < t .n * L → false ≡ meets t z L
@@ -187,10 +187,10 @@ spread-below t z L M h =
     nearer = sub-le-sub-left (mul-le-mul-left (t .n) h) (t .sum)
 
 -- what meets the condition, and everything below it
-pub meets-below : (t : Tally) (z L M : ℕ) → L ≤ M → Meets t z M → Meets t z L
-meets-below t z L M h c =
-    let m = meets-moved t z M c in
-    moved-meets t z L
+pub meets-below : (t : Tally) (z L M : ℕ) → 0 < t .n → L ≤ M → Meets t z M → Meets t z L
+meets-below t z L M p h c =
+    let m = meets-moved t z M p c in
+    moved-meets t z L p
     (record { room = le-trans (mul-le-mul-left (t .n) h) (m .room); spread = le-trans (m .spread) (spread-below t z L M h) })
 
 -- nothing above the mean meets it
@@ -198,7 +198,7 @@ pub above-mean : (t : Tally) (z M : ℕ) → 0 < t .n → meanOf t < M → Meets
 unfolding meanOf
 above-mean t z M p h m =
     not-le-of-lt (lt-mul-div-succ (t .sum) p)
-    (le-trans (mul-le-mul-left (t .n) (let k : t .sum / t .n + 1 ≤ M = omega arith in k)) (meets-moved t z M m .room))
+    (le-trans (mul-le-mul-left (t .n) (let k : t .sum / t .n + 1 ≤ M = omega arith in k)) (meets-moved t z M p m .room))
 
 -- ---- the greatest number that passes a test
 
@@ -251,9 +251,9 @@ pub limit-is : (t : Tally) (z : ℕ) → 0 < t .n → IsLimit t z (limitOf t z)
 unfolding limitOf
 limit-is t z p =
     record {
-      reached = λ h. meets-true t z (limitOf t z) (greatest-passes (meets t z) (meanOf t) h);
+      reached = λ h. meets-true t z (limitOf t z) p (greatest-passes (meets t z) (meanOf t) h);
       greatest = λ M h m. elim (decLe M (meanOf t)) [
-        | yes l ↦ meets-false t z M (greatest-last (meets t z) (meanOf t) M h l) m
+        | yes l ↦ meets-false t z M p (greatest-last (meets t z) (meanOf t) M h l) m
         | no n ↦ above-mean t z M p (lt-of-not-le n) m
       ];
     }

@@ -20,7 +20,7 @@ pub record Windows (before after : List ℕ) : Type 0 where
   pub low-before : Low flowMost before
   pub low-after : Low flowMost after
 
--- the numbers of both windows together: the largest product, 100 × n × (S - nL)², fits 64 bits
+-- the numbers of both windows together: the largest product, 100 × (n - 1) × (S - nL)², fits 64 bits
 pub record Sized (t : Tally) : Type 0 where
   pub some : 0 < t .n
   pub few : t .n ≤ 2 * width95

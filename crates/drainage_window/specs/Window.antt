@@ -20,10 +20,11 @@ tallyOf xs = record { n = length xs; sum = total xs; squares = total (map (λ v.
 unfoldable pub meanOf : Tally → ℕ
 meanOf t = t .sum / t .n
 
--- Rule 7.7, the two conditions on L, over whole numbers with sign. z is z2 in hundredths, so 100 stands on the right.
+-- Rule 7.7, the two conditions on L, over whole numbers with sign. A window is a sample, so n - 1 divides its spread; z is z2 in
+-- hundredths, so 100 stands on the right.
 pub record Condition (n S Q2 z L : ℤ) : Type 0 where
   pub room : (n *ℤ L) ≤ℤ S
-  pub spread : (z *ℤ ((n *ℤ Q2) -ℤ (S *ℤ S))) ≤ℤ (pos 100 *ℤ ((n *ℤ (S -ℤ (n *ℤ L))) *ℤ (S -ℤ (n *ℤ L))))
+  pub spread : (z *ℤ ((n *ℤ Q2) -ℤ (S *ℤ S))) ≤ℤ (pos 100 *ℤ (((n -ℤ pos 1) *ℤ (S -ℤ (n *ℤ L))) *ℤ (S -ℤ (n *ℤ L))))
 
 abbrev pub Meets : Tally → ℕ → ℕ → Type 0
 Meets t z L = Condition (pos (t .n)) (pos (t .sum)) (pos (t .squares)) (pos z) (pos L)
@@ -58,7 +59,7 @@ abbrev pub spreadOf : Tally → ℕ → ℕ
 spreadOf t z = z * (t .n * t .squares)
 
 abbrev pub allowedOf : Tally → ℕ → ℕ → ℕ
-allowedOf t z L = z * (t .sum * t .sum) + 100 * (t .n * ((t .sum - t .n * L) * (t .sum - t .n * L)))
+allowedOf t z L = z * (t .sum * t .sum) + 100 * ((t .n - 1) * ((t .sum - t .n * L) * (t .sum - t .n * L)))
 
 -- both conditions as a test
 unfoldable pub meets : Tally → ℕ → ℕ → Bool
@@ -79,7 +80,7 @@ mean-example : meanOf (tallyOf (replicate 16 100 ++ replicate 16 101)) ≡ 100
 unfolding meanOf tallyOf
 mean-example = refl
 
-limit-example : limitOf (tallyOf (replicate 96 0 ++ replicate 96 2000)) z90 ≡ 881
+limit-example : limitOf (tallyOf (replicate 96 0 ++ replicate 96 2000)) z90 ≡ 880
 unfolding limitOf meanOf tallyOf meets greatestUpTo
 limit-example = refl
 

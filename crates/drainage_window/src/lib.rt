@@ -97,7 +97,7 @@ fn meets_at(t: Tally, z: u64, l: u64) -> bool
         return false;
     }
     let left = sum - n * l;
-    z * (n * t.squares) <= z * (sum * sum) + 100 * (n * (left * left))
+    z * (n * t.squares) <= z * (sum * sum) + 100 * ((n - 1) * (left * left))
 }
 
 // The lower limit for z2 in hundredths, by halving. Ruled out: the least number that does not meet the condition (rounded

@@ -31,6 +31,9 @@ mul-result-3 c = record { fits = omega (arith, sum-fits (c .before .before .pre 
 mul-result-4 : tie.Need-mul-result-4
 mul-result-4 c = record { fits = omega (arith, sum-fits-z (c .before .before .pre .0) (c .before .before .pre .1)) }
 
+sub-result : tie.Need-sub-result
+sub-result c = c .before .before .pre .0 .some
+
 mul-result-5 : tie.Need-mul-result-5
 mul-result-5 c =
     record { fits = omega (arith, left-fits (c .before .before .pre .0) (c .before .before .args .t .n * c .before .before .args .l)) }
@@ -69,6 +72,7 @@ meets-at-spec =
     mul-result-2
     mul-result-3
     mul-result-4
+    sub-result
     mul-result-5
     mul-result-6
     mul-result-7
