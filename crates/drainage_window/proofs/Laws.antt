@@ -29,10 +29,10 @@ pub total-append : (xs ys : List ℕ) → total (xs ++ ys) ≡ total xs + total 
 total-append [] ys = let z : total ys ≡ 0 + total ys = omega arith in z
 total-append (x ∷ xs) ys = let h : total (xs ++ ys) ≡ total xs + total ys = total-append xs ys in omega arith
 
-low-tail : (b x : ℕ) (xs : List ℕ) → Low b (x ∷ xs) → Low b xs
+pub low-tail : (b x : ℕ) (xs : List ℕ) → Low b (x ∷ xs) → Low b xs
 low-tail b x xs l = record { low = λ k h. l .low (suc k) (suc-le-suc h) }
 
-low-head : (b x : ℕ) (xs : List ℕ) → Low b (x ∷ xs) → x ≤ b
+pub low-head : (b x : ℕ) (xs : List ℕ) → Low b (x ∷ xs) → x ≤ b
 low-head b x xs l = l .low 0 (suc-le-suc (zero-le))
 
 -- the sum of any measure of the values is at most their number times its most
@@ -107,10 +107,23 @@ windows-sized before after w =
 
 -- ---- the condition and its test
 
--- the condition in natural numbers, z2 × S² on the right
-pub record Moved (t : Tally) (z L : ℕ) : Type 0 where
+-- the conditions with a divisor c, which is n - 1 in the rule: in natural numbers, z2 × S² on the right
+abbrev pub allowedBy : ℕ → Tally → ℕ → ℕ → ℕ
+allowedBy c t z L = z * (t .sum * t .sum) + 100 * (c * ((t .sum - t .n * L) * (t .sum - t .n * L)))
+
+pub record Moved (c : ℕ) (t : Tally) (z L : ℕ) : Type 0 where
   pub room : t .n * L ≤ t .sum
-  pub spread : spreadOf t z ≤ allowedOf t z L
+  pub spread : spreadOf t z ≤ allowedBy c t z L
+
+-- the second with sign
+abbrev pub Signed : ℤ → Tally → ℕ → ℕ → Type 0
+Signed c t z L =
+    (pos z *ℤ (pos (t .n * t .squares) -ℤ pos (t .sum * t .sum))) ≤ℤ
+    (pos 100 *ℤ ((c *ℤ (pos (t .sum) -ℤ pos (t .n * L))) *ℤ (pos (t .sum) -ℤ pos (t .n * L))))
+
+-- both as a test
+abbrev pub passes : ℕ → Tally → ℕ → ℕ → Bool
+passes c t z L = both (leb (t .n * L) (t .sum)) (leb (spreadOf t z) (allowedBy c t z L))
 
 -- a difference that is not below 0
 minus-pos : (a b : ℕ) → b ≤ a → (pos a -ℤ pos b) ≡ pos (a - b)
@@ -123,46 +136,62 @@ left-is z p m =
     subst (λ (w : ℤ). Is w (p * z) (m * z)) (*ℤ-comm (pos p -ℤ pos m) (pos z))
     (is-times (pos p -ℤ pos m) z (record { is = let e = is-minus (pos p) (pos m) (is-pos p) (is-pos m) .is in omega arith }))
 
--- (n - 1) × (S - nL) × (S - nL), once there is a value and S is at least nL
-right-is : (n s m : ℕ) → 0 < n → m ≤ s
-    → (pos 100 *ℤ (((pos n -ℤ pos 1) *ℤ (pos s -ℤ pos m)) *ℤ (pos s -ℤ pos m))) ≡ pos (100 * ((n - 1) * (s - m) * (s - m)))
-right-is n s m p h = ap₂ (λ (c d : ℤ). pos 100 *ℤ ((c *ℤ d) *ℤ d)) (minus-pos n 1 p) (minus-pos s m h)
+-- c × (S - nL) × (S - nL), once S is at least nL
+right-is : (c s m : ℕ) → m ≤ s
+    → (pos 100 *ℤ ((pos c *ℤ (pos s -ℤ pos m)) *ℤ (pos s -ℤ pos m))) ≡ pos (100 * (c * (s - m) * (s - m)))
+right-is c s m h = ap (λ (d : ℤ). pos 100 *ℤ ((pos c *ℤ d) *ℤ d)) (minus-pos s m h)
 
--- the rule's form and the one with S² moved across say the same of any values
-module _ (t : Tally) (z L : ℕ) (p : 0 < t .n) where
-  pub meets-moved : Meets t z L → Moved t z L
-  meets-moved c =
-      let room : t .n * L ≤ t .sum =
-      let h = le-is (pos (t .n * L)) (pos (t .sum)) (is-pos (t .n * L)) (is-pos (t .sum)) (c .room) in omega arith in
-      record { room = room; spread = moved room }
+module _ (c : ℕ) (t : Tally) (z L : ℕ) where
+  pub moved : (pos (t .n) *ℤ pos L) ≤ℤ pos (t .sum) → Signed (pos c) t z L → Moved c t z L
+  moved first second = record { room = room; spread = across }
     where
-      moved : t .n * L ≤ t .sum → spreadOf t z ≤ allowedOf t z L
-      moved room =
+      room : t .n * L ≤ t .sum
+      room = let h = le-is (pos (t .n * L)) (pos (t .sum)) (is-pos (t .n * L)) (is-pos (t .sum)) first in omega arith
+
+      across : spreadOf t z ≤ allowedBy c t z L
+      across =
           let d : ℕ = t .sum - t .n * L in
-          let h = le-is _ _ (left-is z (t .n * t .squares) (t .sum * t .sum)) (is-pos (100 * ((t .n - 1) * d * d)))
-          (subst (λ (w : ℤ). (pos z *ℤ (pos (t .n * t .squares) -ℤ pos (t .sum * t .sum))) ≤ℤ w) (right-is (t .n) (t .sum) (t .n * L) p room) (c .spread)) in
+          let h = le-is _ _ (left-is z (t .n * t .squares) (t .sum * t .sum)) (is-pos (100 * (c * d * d)))
+          (subst (λ (w : ℤ). (pos z *ℤ (pos (t .n * t .squares) -ℤ pos (t .sum * t .sum))) ≤ℤ w) (right-is c (t .sum) (t .n * L) room) second) in
           omega arith
 
-  pub moved-meets : Moved t z L → Meets t z L
+  pub moved-first : Moved c t z L → (pos (t .n) *ℤ pos L) ≤ℤ pos (t .sum)
+  moved-first m = is-le (pos (t .n * L)) (pos (t .sum)) (is-pos (t .n * L)) (is-pos (t .sum)) (omega (arith, m .room))
+
+  pub moved-second : Moved c t z L → Signed (pos c) t z L
+  moved-second m =
+      subst (λ (w : ℤ). (pos z *ℤ (pos (t .n * t .squares) -ℤ pos (t .sum * t .sum))) ≤ℤ w) (sym (right-is c (t .sum) (t .n * L) (m .room)))
+      (is-le _ _ (left-is z (t .n * t .squares) (t .sum * t .sum)) (is-pos (100 * (c * (t .sum - t .n * L) * (t .sum - t .n * L))))
+      (omega (arith, m .spread)))
+
+  pub passes-moved : passes c t z L ≡ true → Moved c t z L
+  passes-moved e =
+      let h = both-true (leb (t .n * L) (t .sum)) (leb (spreadOf t z) (allowedBy c t z L)) e in
+      record { room = leb-true (t .n * L) (t .sum) (h .0); spread = leb-true (spreadOf t z) (allowedBy c t z L) (h .1) }
+
+  pub moved-passes : Moved c t z L → passes c t z L ≡ true
+  moved-passes m = ap₂ both (le-leb (t .n * L) (t .sum) (m .room)) (le-leb (spreadOf t z) (allowedBy c t z L) (m .spread))
+
+-- the rule's form and the one with S² moved across say the same, of one value or more
+module _ (t : Tally) (z L : ℕ) (p : 0 < t .n) where
+  pub meets-moved : Meets t z L → Moved (t .n - 1) t z L
+  meets-moved c =
+      moved (t .n - 1) t z L (c .room) (subst (λ (d : ℤ). Signed d t z L) (minus-pos (t .n) 1 p) (c .spread))
+
+  pub moved-meets : Moved (t .n - 1) t z L → Meets t z L
   moved-meets m =
       record {
-        room = is-le (pos (t .n * L)) (pos (t .sum)) (is-pos (t .n * L)) (is-pos (t .sum)) (omega (arith, m .room));
-        spread =
-            subst (λ (w : ℤ). (pos z *ℤ (pos (t .n * t .squares) -ℤ pos (t .sum * t .sum))) ≤ℤ w) (sym (right-is (t .n) (t .sum) (t .n * L) p (m .room)))
-            (is-le _ _ (left-is z (t .n * t .squares) (t .sum * t .sum)) (is-pos (100 * ((t .n - 1) * (t .sum - t .n * L) * (t .sum - t .n * L))))
-            (omega (arith, m .spread)));
+        room = moved-first (t .n - 1) t z L m;
+        spread = subst (λ (d : ℤ). Signed d t z L) (sym (minus-pos (t .n) 1 p)) (moved-second (t .n - 1) t z L m);
       }
 
 pub meets-true : (t : Tally) (z L : ℕ) → 0 < t .n → meets t z L ≡ true → Meets t z L
 unfolding meets
-meets-true t z L p e =
-    let h = both-true (leb (t .n * L) (t .sum)) (leb (spreadOf t z) (allowedOf t z L)) e in
-    moved-meets t z L p (record { room = leb-true (t .n * L) (t .sum) (h .0); spread = leb-true (spreadOf t z) (allowedOf t z L) (h .1) })
+meets-true t z L p e = moved-meets t z L p (passes-moved (t .n - 1) t z L e)
 
 pub meets-met : (t : Tally) (z L : ℕ) → 0 < t .n → Meets t z L → meets t z L ≡ true
 unfolding meets
-meets-met t z L p c =
-    let m = meets-moved t z L p c in ap₂ both (le-leb (t .n * L) (t .sum) (m .room)) (le-leb (spreadOf t z) (allowedOf t z L) (m .spread))
+meets-met t z L p c = moved-passes (t .n - 1) t z L (meets-moved t z L p c)
 
 pub meets-false : (t : Tally) (z L : ℕ) → 0 < t .n → meets t z L ≡ false → Meets t z L → ⊥
 meets-false t z L p e m = clash (meets-met t z L p m) e
@@ -193,12 +222,15 @@ meets-below t z L M p h c =
     moved-meets t z L p
     (record { room = le-trans (mul-le-mul-left (t .n) h) (m .room); spread = le-trans (m .spread) (spread-below t z L M h) })
 
--- nothing above the mean meets it
-pub above-mean : (t : Tally) (z M : ℕ) → 0 < t .n → meanOf t < M → Meets t z M → ⊥
+-- nothing above the mean has room, so nothing above it meets them
+pub no-room : (t : Tally) (M : ℕ) → 0 < t .n → meanOf t < M → t .n * M ≤ t .sum → ⊥
 unfolding meanOf
-above-mean t z M p h m =
+no-room t M p h room =
     not-le-of-lt (lt-mul-div-succ (t .sum) p)
-    (le-trans (mul-le-mul-left (t .n) (let k : t .sum / t .n + 1 ≤ M = omega arith in k)) (meets-moved t z M p m .room))
+    (le-trans (mul-le-mul-left (t .n) (let k : t .sum / t .n + 1 ≤ M = omega arith in k)) room)
+
+pub above-mean : (t : Tally) (z M : ℕ) → 0 < t .n → meanOf t < M → Meets t z M → ⊥
+above-mean t z M p h m = no-room t M p h (meets-moved t z M p m .room)
 
 -- ---- the greatest number that passes a test
 
@@ -244,19 +276,26 @@ module _ (p : ℕ → Bool) where
       (eq-or-lt-of-le l))
       (greatest-case k)
 
+  -- where nothing above k meets what the test tests, it is the greatest of all
+  pub greatest-is : (P : ℕ → Type 0) (k : ℕ)
+      → ((M : ℕ) → p M ≡ true → P M)
+      → ((M : ℕ) → p M ≡ false → P M → ⊥)
+      → ((M : ℕ) → k < M → P M → ⊥)
+      → (0 < greatestUpTo p k → P (greatestUpTo p k)) × ((M : ℕ) → greatestUpTo p k < M → P M → ⊥)
+  greatest-is P k passed failed above = (
+    λ h. passed (greatestUpTo p k) (greatest-passes k h),
+    λ M h m. elim (decLe M k) [ yes l ↦ failed M (greatest-last k M h l) m | no n ↦ above M (lt-of-not-le n) m ],
+  )
+
 -- ---- the limit
 
 -- the computed limit is what rule 7.7 asks for
 pub limit-is : (t : Tally) (z : ℕ) → 0 < t .n → IsLimit t z (limitOf t z)
 unfolding limitOf
 limit-is t z p =
-    record {
-      reached = λ h. meets-true t z (limitOf t z) p (greatest-passes (meets t z) (meanOf t) h);
-      greatest = λ M h m. elim (decLe M (meanOf t)) [
-        | yes l ↦ meets-false t z M p (greatest-last (meets t z) (meanOf t) M h l) m
-        | no n ↦ above-mean t z M p (lt-of-not-le n) m
-      ];
-    }
+    let found =
+    greatest-is (meets t z) (Meets t z) (meanOf t) (λ M. meets-true t z M p) (λ M. meets-false t z M p) (λ M. above-mean t z M p) in
+    record { reached = found .0; greatest = found .1 }
 
 no-less : (t : Tally) (z L M : ℕ) → IsLimit t z L → IsLimit t z M → M ≤ L
 no-less t z L M x y =

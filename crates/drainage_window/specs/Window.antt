@@ -54,7 +54,8 @@ width95 = 288
 -- ---- The computing form, which code and examples use. proofs/Laws.antt has that it is the same: `meets-true` and `meets-met` for
 -- the conditions; `limit-is`, `limit-of` and `limit-unique` for the limit.
 
--- the two sides of the second condition in natural numbers: z2 × S² stands on the right, so that nothing is cut off at 0
+-- the two sides of the second condition in natural numbers, of one value or more: z2 × S² stands on the right, so that nothing
+-- is cut off at 0
 abbrev pub spreadOf : Tally → ℕ → ℕ
 spreadOf t z = z * (t .n * t .squares)
 

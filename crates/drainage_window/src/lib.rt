@@ -101,7 +101,7 @@ fn meets_at(t: Tally, z: u64, l: u64) -> bool
 }
 
 // The lower limit for z2 in hundredths, by halving. Ruled out: the least number that does not meet the condition (rounded
-// up); the inequality reversed at equality.
+// up); the inequality reversed at equality; n in the place of n - 1, as for a whole population.
 pub fn limit(t: Tally, z: u64) -> u64
     requires { ⌜ Sized t × (z ≤ z95) ⌝ }
     ensures { λ r. ⌜ r ≡ limitOf t z ⌝ }

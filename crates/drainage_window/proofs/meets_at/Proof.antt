@@ -32,7 +32,7 @@ mul-result-4 : tie.Need-mul-result-4
 mul-result-4 c = record { fits = omega (arith, sum-fits-z (c .before .before .pre .0) (c .before .before .pre .1)) }
 
 sub-result : tie.Need-sub-result
-sub-result c = c .before .before .pre .0 .some
+sub-result c = omega (arith, c .before .before .pre .0 .some)
 
 mul-result-5 : tie.Need-mul-result-5
 mul-result-5 c =
