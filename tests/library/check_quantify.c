@@ -325,7 +325,10 @@ static void check_rows(void)
     expect(c.outcome[16] == 1 && c.flow_used[16] == 100 && c.amounts[CMM_REPLACED] == 1, "a gap of 1", "the mean");
     c = gap(24, 96, 0, 2000);
     accepted("a gap of 24", &c);
-    expect(c.outcome[96] == 1 && c.flow_used[96] == 881 && c.flow_used[119] == 881, "a gap of 24", "the 90 % limit");
+    expect(c.outcome[96] == 1 && c.flow_used[96] == 880 && c.flow_used[119] == 880, "a gap of 24", "the 90 % limit");
+    c = gap(96, 288, 0, 2200);
+    accepted("a gap of 96", &c);
+    expect(c.outcome[288] == 1 && c.flow_used[288] == 1009 && c.flow_used[383] == 1009, "a gap of 96", "the 95 % limit");
     c = gap(24, 96, 0, 0);
     c.flow[0] = 192;
     accepted("191 of 0, one 192", &c);

@@ -85,6 +85,10 @@ limit-example : limitOf (tallyOf (replicate 96 0 ++ replicate 96 2000)) z90 ≡ 
 unfolding limitOf meanOf tallyOf meets greatestUpTo
 limit-example = refl
 
+limit-95-example : limitOf (tallyOf (replicate 288 0 ++ replicate 288 2200)) z95 ≡ 1009
+unfolding limitOf meanOf tallyOf meets greatestUpTo
+limit-95-example = refl
+
 limit-none : limitOf (tallyOf (replicate 191 0 ++ replicate 1 192)) z90 ≡ 0
 unfolding limitOf meanOf tallyOf meets greatestUpTo
 limit-none = refl
