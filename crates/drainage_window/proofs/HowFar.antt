@@ -17,8 +17,8 @@ use Rattle.drainage_window.proofs.Laws.{low-head, low-tail, total-most,
 use Rattle.drainage_window.proofs.Earlier.{MetEarlier, IsEarlierLimit, earlierLimitOf, earlier-moved, earlier-is}
 
 -- values of at most b, with m for n - 1: they cannot lower the limit by more than k
-abbrev pub Covers : ℕ → ℕ → ℕ → ℕ → Type 0
-Covers m b z k = z * (b * b) ≤ 1600 * (k * k * (m * m * m))
+abbrev pub LowersAtMost : ℕ → ℕ → ℕ → ℕ → Type 0
+LowersAtMost m b z k = z * (b * b) ≤ 1600 * (k * k * (m * m * m))
 
 rest : {x y : ℕ} → x ≤ y → x + (y - x) ≡ y
 rest h = omega arith
@@ -48,7 +48,7 @@ near : (m k d : ℕ) → d ≤ 2 * (k * ((m + 1) * m)) → (m + 1) * (d * d) ≤
 near m k d h = let g : d * d ≤ 2 * (k * ((m + 1) * m)) * d = mul-le-mul h (le-refl d) in omega arith
 
 -- above it, what b allows is enough
-far : (n m s q b z k d : ℕ) → q ≤ b * s → s ≤ n * b → Covers m b z k → 2 * (k * (n * m)) ≤ d
+far : (n m s q b z k d : ℕ) → q ≤ b * s → s ≤ n * b → LowersAtMost m b z k → 2 * (k * (n * m)) ≤ d
     → z * (n * q) ≤ z * (s * s) + 100 * (m * (d * d))
 far n m s q b z k d hq hs hz hd =
     let a : z * (4 * (n * q)) ≤ z * (4 * (s * s) + n * b * (n * b)) = mul-le-mul-left z (spread-most n s q b hq hs) in
@@ -57,7 +57,7 @@ far n m s q b z k d hq hs hz hd =
     omega (arith, a, e, g)
 
 -- so what d met with the divisor n, d + nk meets with n - 1
-widened : (n m s q b z k d : ℕ) → m + 1 ≡ n → q ≤ b * s → s ≤ n * b → Covers m b z k
+widened : (n m s q b z k d : ℕ) → m + 1 ≡ n → q ≤ b * s → s ≤ n * b → LowersAtMost m b z k
     → z * (n * q) ≤ z * (s * s) + 100 * (n * (d * d)) → z * (n * q) ≤ z * (s * s) + 100 * (m * ((d + n * k) * (d + n * k)))
 widened n m s q b z k d e hq hs hz met =
     elim (decLe d (2 * (k * (n * m)))) [
@@ -75,7 +75,7 @@ pub record Within (b : ℕ) (t : Tally) : Type 0 where
   pub squares : t .squares ≤ b * t .sum
 
 -- k below what met the earlier conditions, these are met
-met-below : (t : Tally) (z b k M : ℕ) → Within b t → Covers (t .n - 1) b z k
+met-below : (t : Tally) (z b k M : ℕ) → Within b t → LowersAtMost (t .n - 1) b z k
     → MetEarlier t z (M + k) → Meets t z M
 met-below t z b k M w h c =
     let e = earlier-moved t z (M + k) c in
@@ -94,7 +94,7 @@ met-below t z b k M w h c =
     one-more l = omega arith
 
 -- the limit is at most k below the earlier one
-pub never-far : (t : Tally) (z b k L M : ℕ) → Within b t → Covers (t .n - 1) b z k
+pub never-far : (t : Tally) (z b k L M : ℕ) → Within b t → LowersAtMost (t .n - 1) b z k
     → IsLimit t z L → IsEarlierLimit t z M → M ≤ L + k
 never-far t z b k L M w h x y =
     elim (decLe M (L + k)) [
@@ -120,13 +120,13 @@ unfolding tallyOf
 within b xs p l = record { some = p; sum = total-most b xs l; squares = squares-sum b xs l }
 
 -- n values of at most b
-lower : (n b z k : ℕ) (xs : List ℕ) → length xs ≡ n → 0 < n → Low b xs → Covers (n - 1) b z k
+lower : (n b z k : ℕ) (xs : List ℕ) → length xs ≡ n → 0 < n → Low b xs → LowersAtMost (n - 1) b z k
     → earlierLimitOf (tallyOf xs) z ≤ limitOf (tallyOf xs) z + k
 lower n b z k xs e p l h =
     let count : n ≡ tallyOf xs .n = sym (tally-count xs ∙ e) in
     let w = within b xs (subst (λ (m : ℕ). 0 < m) (sym e) p) l in
     never-far (tallyOf xs) z b k (limitOf (tallyOf xs) z) (earlierLimitOf (tallyOf xs) z) w
-    (subst (λ (m : ℕ). Covers (m - 1) b z k) count h)
+    (subst (λ (m : ℕ). LowersAtMost (m - 1) b z k) count h)
     (limit-is (tallyOf xs) z (w .some))
     (earlier-is (tallyOf xs) z (w .some))
 
