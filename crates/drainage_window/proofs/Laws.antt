@@ -116,8 +116,8 @@ pub record Moved (c : ℕ) (t : Tally) (z L : ℕ) : Type 0 where
   pub spread : spreadOf t z ≤ allowedBy c t z L
 
 -- the second with sign
-abbrev pub Signed : ℤ → Tally → ℕ → ℕ → Type 0
-Signed c t z L =
+abbrev pub SignedSpread : ℤ → Tally → ℕ → ℕ → Type 0
+SignedSpread c t z L =
     (pos z *ℤ (pos (t .n * t .squares) -ℤ pos (t .sum * t .sum))) ≤ℤ
     (pos 100 *ℤ ((c *ℤ (pos (t .sum) -ℤ pos (t .n * L))) *ℤ (pos (t .sum) -ℤ pos (t .n * L))))
 
@@ -142,7 +142,7 @@ right-is : (c s m : ℕ) → m ≤ s
 right-is c s m h = ap (λ (d : ℤ). pos 100 *ℤ ((pos c *ℤ d) *ℤ d)) (minus-pos s m h)
 
 module _ (c : ℕ) (t : Tally) (z L : ℕ) where
-  pub moved : (pos (t .n) *ℤ pos L) ≤ℤ pos (t .sum) → Signed (pos c) t z L → Moved c t z L
+  pub moved : (pos (t .n) *ℤ pos L) ≤ℤ pos (t .sum) → SignedSpread (pos c) t z L → Moved c t z L
   moved first second = record { room = room; spread = across }
     where
       room : t .n * L ≤ t .sum
@@ -158,7 +158,7 @@ module _ (c : ℕ) (t : Tally) (z L : ℕ) where
   pub moved-first : Moved c t z L → (pos (t .n) *ℤ pos L) ≤ℤ pos (t .sum)
   moved-first m = is-le (pos (t .n * L)) (pos (t .sum)) (is-pos (t .n * L)) (is-pos (t .sum)) (omega (arith, m .room))
 
-  pub moved-second : Moved c t z L → Signed (pos c) t z L
+  pub moved-second : Moved c t z L → SignedSpread (pos c) t z L
   moved-second m =
       subst (λ (w : ℤ). (pos z *ℤ (pos (t .n * t .squares) -ℤ pos (t .sum * t .sum))) ≤ℤ w) (sym (right-is c (t .sum) (t .n * L) (m .room)))
       (is-le _ _ (left-is z (t .n * t .squares) (t .sum * t .sum)) (is-pos (100 * (c * (t .sum - t .n * L) * (t .sum - t .n * L))))
@@ -176,13 +176,13 @@ module _ (c : ℕ) (t : Tally) (z L : ℕ) where
 module _ (t : Tally) (z L : ℕ) (p : 0 < t .n) where
   pub meets-moved : Meets t z L → Moved (t .n - 1) t z L
   meets-moved c =
-      moved (t .n - 1) t z L (c .room) (subst (λ (d : ℤ). Signed d t z L) (minus-pos (t .n) 1 p) (c .spread))
+      moved (t .n - 1) t z L (c .room) (subst (λ (d : ℤ). SignedSpread d t z L) (minus-pos (t .n) 1 p) (c .spread))
 
   pub moved-meets : Moved (t .n - 1) t z L → Meets t z L
   moved-meets m =
       record {
         room = moved-first (t .n - 1) t z L m;
-        spread = subst (λ (d : ℤ). Signed d t z L) (sym (minus-pos (t .n) 1 p)) (moved-second (t .n - 1) t z L m);
+        spread = subst (λ (d : ℤ). SignedSpread d t z L) (sym (minus-pos (t .n) 1 p)) (moved-second (t .n - 1) t z L m);
       }
 
 pub meets-true : (t : Tally) (z L : ℕ) → 0 < t .n → meets t z L ≡ true → Meets t z L
