@@ -52,6 +52,7 @@ mod selfcheck_calls;
 mod selfcheck_correction;
 mod selfcheck_flow;
 mod selfcheck_historian;
+mod selfcheck_limits;
 mod selfcheck_readings;
 mod selfcheck_texts;
 mod selfcheck_words;

@@ -1,4 +1,5 @@
-//! Whole numbers from 0 up of any size, and fractions of them: just what an exact sum and its comparison need.
+//! Whole numbers from 0 up of any size, and fractions of them: just what an exact sum and its comparison need, and the
+//! mean and variance of a window.
 
 use std::cmp::Ordering;
 
@@ -48,6 +49,19 @@ impl Natural {
         }
         Natural::trimmed(digits)
     }
+
+    /// How far apart the two are: the less taken from the greater digit by digit, as by hand.
+    pub fn distance(&self, other: &Natural) -> Natural {
+        let (more, less) = if self >= other { (self, other) } else { (other, self) };
+        let mut digits = Vec::new();
+        let mut borrowed = 0;
+        for k in 0..more.0.len() {
+            let taken = less.digit(k) + borrowed;
+            borrowed = (more.digit(k) < taken) as u128;
+            digits.push(((borrowed << 64) + more.digit(k) - taken) as u64);
+        }
+        Natural::trimmed(digits)
+    }
 }
 
 impl PartialOrd for Natural {
@@ -76,6 +90,9 @@ impl Fraction {
     }
 
     pub fn plus(&self, other: &Fraction) -> Fraction {
+        if self.below == other.below {
+            return Fraction { above: self.above.plus(&other.above), below: self.below.clone() };
+        }
         Fraction {
             above: self.above.times(&other.below).plus(&other.above.times(&self.below)),
             below: self.below.times(&other.below),
@@ -91,6 +108,31 @@ impl Fraction {
                 .collect();
         }
         terms.pop().unwrap_or(Fraction::new(0, 1))
+    }
+
+    /// How far apart the two are.
+    pub fn distance(&self, other: &Fraction) -> Fraction {
+        Fraction {
+            above: self.above.times(&other.below).distance(&other.above.times(&self.below)),
+            below: self.below.times(&other.below),
+        }
+    }
+
+    pub fn times(&self, other: &Fraction) -> Fraction {
+        Fraction { above: self.above.times(&other.above), below: self.below.times(&other.below) }
+    }
+
+    pub fn squared(&self) -> Fraction {
+        self.times(self)
+    }
+
+    /// A part of it, where so many make the whole.
+    pub fn over(&self, parts: u128) -> Fraction {
+        self.times(&Fraction::new(1, parts))
+    }
+
+    pub fn at_most(&self, other: &Fraction) -> bool {
+        self.above.times(&other.below) <= other.above.times(&self.below)
     }
 
     /// Is this at least the whole number? Below 0 nothing has to be multiplied.

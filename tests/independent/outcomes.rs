@@ -1,7 +1,7 @@
 //! One device: the outcome of each interval, the values used, the ten counts.
 
 use crate::drift::corrected;
-use crate::gaps::{gaps, replacement, Replacement};
+use crate::gaps::{gaps, replacement, Limit, Replacement};
 use crate::record::Device;
 
 pub struct DeviceRows {
@@ -17,9 +17,9 @@ enum Used {
     Missing(Replacement),
 }
 
-pub fn device_rows(device: &Device) -> DeviceRows {
-    let flow = used(&corrected(&device.flow, &device.flow_checks));
-    let ch4 = used(&corrected(&device.ch4, &device.ch4_checks));
+pub fn device_rows(device: &Device, limit: Limit) -> DeviceRows {
+    let flow = used(&corrected(&device.flow, &device.flow_checks), limit);
+    let ch4 = used(&corrected(&device.ch4, &device.ch4_checks), limit);
     let mut rows = DeviceRows { outcome: Vec::new(), flow: Vec::new(), ch4: Vec::new() };
     for i in 0..device.status.len() {
         let measured = device.temp[i].is_some() && device.press[i].is_some();
@@ -31,11 +31,11 @@ pub fn device_rows(device: &Device) -> DeviceRows {
     rows
 }
 
-fn used(row: &[Option<u16>]) -> Vec<Used> {
+fn used(row: &[Option<u16>], limit: Limit) -> Vec<Used> {
     let keep = |reading: &Option<u16>| Used::Measured(reading.unwrap_or(0));
     let mut used: Vec<Used> = row.iter().map(keep).collect();
     for gap in gaps(row) {
-        let answer = replacement(row, gap);
+        let answer = replacement(row, gap, limit);
         used[gap.start..gap.end].fill(Used::Missing(answer));
     }
     used

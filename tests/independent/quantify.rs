@@ -1,6 +1,7 @@
 //! The whole quantification: refusals first, then each device's rows and account and the sheet's figures.
 
 use crate::call::Call;
+use crate::gaps::{lower_limit, Limit};
 use crate::outcomes::{counts, device_rows, DeviceRows};
 use crate::record::Device;
 use crate::refusal::Refusal;
@@ -23,11 +24,16 @@ pub struct Account {
 }
 
 pub fn quantify(call: &Call) -> Result<Quantified, Refusal> {
+    quantify_by(call, lower_limit)
+}
+
+/// The same by this way of working out lower limits.
+pub fn quantify_by(call: &Call, limit: Limit) -> Result<Quantified, Refusal> {
     if let Some(refusal) = refusal(call) {
         return Err(refusal);
     }
     let devices: Vec<Device> = (0..call.devices as usize).map(|number| call.device(number)).collect();
-    let rows: Vec<DeviceRows> = devices.iter().map(device_rows).collect();
+    let rows: Vec<DeviceRows> = devices.iter().map(|device| device_rows(device, limit)).collect();
     let accounts: Vec<Account> = devices.iter().zip(&rows).map(|(device, row)| account(device, row)).collect();
     Ok(Quantified { figures: figures(call, &accounts), devices, rows, accounts })
 }

@@ -3,7 +3,7 @@
 
 use crate::call::Call;
 use crate::drift::{corrected, corrected_by_stretches, corrected_value};
-use crate::gaps::{lower_limit, lower_limit_by_root, mean};
+use crate::gaps::{lower_limit, mean};
 use crate::outcomes::device_rows;
 use crate::plain_files::longest_record;
 use crate::quantify::quantify;
@@ -12,7 +12,7 @@ use crate::rng::Rng;
 use crate::tonnes::{balance, credits, litres, methane_litres, tonnes};
 use crate::{compare, draw, sheet};
 use crate::{selfcheck_calls, selfcheck_correction, selfcheck_flow, selfcheck_historian};
-use crate::{selfcheck_readings, selfcheck_texts, selfcheck_words};
+use crate::{selfcheck_limits, selfcheck_readings, selfcheck_texts, selfcheck_words};
 use std::fmt::Debug;
 
 #[derive(Default)]
@@ -36,13 +36,14 @@ pub fn run() -> bool {
     let mut checks = Checks::default();
     volumes(&mut checks);
     drifts(&mut checks);
-    windows(&mut checks);
+    means(&mut checks);
     balances(&mut checks);
     gap_borders(&mut checks);
     outcome_order(&mut checks);
     largest_numbers(&mut checks);
     longest_texts(&mut checks);
     selfcheck_texts::run(&mut checks);
+    selfcheck_limits::run(&mut checks);
     selfcheck_calls::run(&mut checks);
     selfcheck_correction::run(&mut checks);
     selfcheck_readings::run(&mut checks);
@@ -80,13 +81,8 @@ fn drifts(checks: &mut Checks) {
     checks.same("missing stays missing", at_end, vec![Some(952), None]);
 }
 
-fn windows(checks: &mut Checks) {
-    let two = |n: usize, a: u16, m: usize, b: u16| [vec![a; n], vec![b; m]].concat();
-    checks.same("mean", mean(&two(16, 100, 16, 101)), 100);
-    checks.same("lower 90 % limit", lower_limit(&two(96, 0, 96, 2_000), 271), 881);
-    checks.same("no lower limit", lower_limit(&two(191, 0, 1, 192), 271), 0);
-    checks.same("limit of equal values", lower_limit(&[1_000; 192], 271), 1_000);
-    checks.same("limit of equal values", lower_limit(&[30_000; 576], 385), 30_000);
+fn means(checks: &mut Checks) {
+    checks.same("mean", mean(&[[100; 16], [101; 16]].concat()), 100);
 }
 
 fn balances(checks: &mut Checks) {
@@ -116,7 +112,7 @@ fn with_gap(before: usize, length: usize, after: usize, window: usize) -> Device
 
 fn gap_borders(checks: &mut Checks) {
     let first = |device: &Device, at: usize| {
-        let rows = device_rows(device);
+        let rows = device_rows(device, lower_limit);
         (rows.outcome[at], rows.flow[at], rows.ch4[at])
     };
     for (length, window) in [(1, 16), (23, 16), (24, 96), (95, 96), (96, 288), (672, 288)] {
@@ -153,7 +149,7 @@ fn outcome_order(checks: &mut Checks) {
     device.status[0] = 0;
     device.status[1] = 1;
     device.press[45] = None;
-    let outcomes = device_rows(&device).outcome;
+    let outcomes = device_rows(&device, lower_limit).outcome;
     checks.same("outcomes in the gap", outcomes[20..30].to_vec(), vec![3, 4, 5, 5, 6, 7, 1, 1, 1, 1]);
     checks.same("outcomes beside it", [outcomes[0], outcomes[1], outcomes[2], outcomes[45]], [3, 0, 0, 5]);
 }
@@ -199,9 +195,6 @@ fn longest_texts(checks: &mut Checks) {
 fn two_ways(checks: &mut Checks) {
     let rng = Rng::new(1, 0);
     for _ in 0..300 {
-        let (n, z2) = rng.pick(&[(192, 271), (576, 385)]);
-        let values: Vec<u16> = draw::readings(&rng, n, 30_000, rng.pick(&draw::STYLES)).into_iter().flatten().collect();
-        checks.same("limit, two ways", lower_limit(&values, z2), lower_limit_by_root(&values, z2));
         let row = draw::readings(&rng, rng.size(1, 60), 30_000, draw::Style::Uniform);
         let field_checks = draw::checks(&rng, row.len(), rng.size(0, 32));
         checks.same("drift, two ways", corrected(&row, &field_checks), corrected_by_stretches(&row, &field_checks));
