@@ -32,20 +32,25 @@ pub fn judge(seed: u64, number: usize, library: &Library) -> Judged {
     let generated = calls::generate(seed, number);
     let call = &generated.call;
     let answer = quantify(call);
+    let difference = ask(seed, number, call, &answer, library);
+    let mut kinds = record_kinds(&answer);
+    kinds.extend(answer.as_ref().err().map_or(vec![], |refusal| reading_kinds::of_call(call, refusal)));
+    kinds.extend(generated.wrong_slice.map(wrong_length));
+    Judged { class: generated.class, kinds, difference }
+}
+
+/// What the library leaves differently than this answer has it; then the call is kept.
+pub fn ask(seed: u64, number: usize, call: &Call, answer: &Answer, library: &Library) -> Option<String> {
     // Another stream than the call's own.
     let before = lent(call, &Rng::new(!seed, number as u64));
     let difference = match library.call(Function::Quantify, &words(call, &before), &before.bytes) {
         Err(trouble) => Some(trouble),
-        Ok((given, bytes)) => difference(call, &answer, &before, given, &before.with(bytes)),
+        Ok((given, bytes)) => difference(call, answer, &before, given, &before.with(bytes)),
     };
-    let mut kinds = record_kinds(&answer);
-    kinds.extend(answer.as_ref().err().map_or(vec![], |refusal| reading_kinds::of_call(call, refusal)));
-    kinds.extend(generated.wrong_slice.map(wrong_length));
-    let difference = difference.map(|difference| {
+    difference.map(|difference| {
         let text = format!("{call:?}\n");
         format!("{difference}; {}", keep(number, &[("call", text.as_bytes())]))
-    });
-    Judged { class: generated.class, kinds, difference }
+    })
 }
 
 /// Every array of the call; those that it may write hold something drawn.
@@ -84,7 +89,7 @@ fn words(call: &Call, image: &Image) -> Vec<u64> {
     words
 }
 
-type Answer = Result<Quantified, Refusal>;
+pub type Answer = Result<Quantified, Refusal>;
 
 fn difference(call: &Call, answer: &Answer, before: &Image, given: u64, after: &Image) -> Option<String> {
     let number = answer.as_ref().err().map_or(0, |refusal| refusal.number as u64);

@@ -61,6 +61,12 @@ pub fn replacement(row: &[Option<u16>], gap: Gap, limit: Limit) -> Replacement {
     })
 }
 
+/// The values of which a lower limit is asked, and z2 in hundredths.
+pub fn limit_asked(row: &[Option<u16>], gap: Gap) -> Option<(Vec<u16>, i128)> {
+    let (width, z2_hundredths) = asked(gap)?;
+    Some((windows(row, gap, width)?, z2_hundredths?))
+}
+
 fn windows(row: &[Option<u16>], gap: Gap, width: usize) -> Option<Vec<u16>> {
     if gap.start < width || gap.end + width > row.len() {
         return None;
@@ -115,15 +121,11 @@ pub fn lower_limit_by_root(values: &[u16], z2_hundredths: i128) -> u16 {
 /// Both sides times n × n × (n - 1) are document 02's condition: the squares of the deviations add to Q2 - S² / n.
 pub fn lower_limit_by_fractions(values: &[u16], z2_hundredths: i128) -> u16 {
     let n = values.len() as u128;
-    let whole: Vec<Fraction> = values.iter().map(|&value| Fraction::new(value as u128, 1)).collect();
-    let mean = Fraction::sum(whole.clone()).over(n);
-    let squares = whole.iter().map(|value| value.distance(&mean).squared()).collect();
+    let mean = Fraction::new(values.iter().map(|&value| value as u128).sum(), n);
+    let squares = values.iter().map(|&value| mean.distance(value as u128).squared()).collect();
     let variance = Fraction::sum(squares).over(n - 1);
     let wanted = Fraction::new(z2_hundredths as u128, 100).times(&variance).over(n);
-    let allowed = |l: u16| {
-        let l = Fraction::new(l as u128, 1);
-        l.at_most(&mean) && wanted.at_most(&mean.distance(&l).squared())
-    };
+    let allowed = |l: u16| mean.at_least(l as i128) && wanted.at_most(&mean.distance(l as u128).squared());
     // Nearer to the mean the distance is less, so that whole numbers up to the limit are allowed and no others are.
     let (mut low, mut high) = (0, u16::MAX);
     while low < high {

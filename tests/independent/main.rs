@@ -2,6 +2,7 @@
 //! record files. See README.md beside this file.
 
 mod answerer;
+mod border_windows;
 mod calendar;
 mod call;
 mod calls;
@@ -10,6 +11,7 @@ mod compare_calls;
 mod compare_command;
 mod compare_exports;
 mod compare_flow;
+mod compare_limits;
 mod damaged_files;
 mod damaged_sheets;
 mod decimal;
@@ -28,6 +30,9 @@ mod historian;
 mod image;
 mod library;
 mod library_texts;
+mod limit_kinds;
+mod limit_rows;
+mod limit_ways;
 mod litre_kinds;
 mod natural;
 mod nine_digits;
@@ -66,10 +71,11 @@ mod wrong_calls;
 mod wrong_readings;
 
 use answerer::{Answerer, Program};
-use compare::Asked;
+use compare::{Asked, Judged};
 use compare_command::{Both, Directory};
 use library::Library;
 use library_texts::{Records, Sheets};
+use limit_ways::Farthest;
 use std::io::{Read, Write};
 use std::process::ExitCode;
 use std::sync::atomic::AtomicUsize;
@@ -85,11 +91,13 @@ const USAGE: &str = "usage:
   independent compare-command ROW SEED COUNT PROGRAM [WORDS] -- COMMAND [WORDS]   the program and `COMMAND sheet`
   independent compare-flow ROW SEED COUNT -- COMMAND [WORDS]   `COMMAND sheet --flow`, records of up to ROW entries
   independent compare-calls SEED COUNT SERVER            the library's cmm_quantify on generated calls
+  independent compare-limits SEED WINDOWS SERVER         the same on rows full of gaps with a lower limit
   independent compare-library SEED COUNT ROW SERVER      its cmm_report with rows of this length, result rows too
   independent compare-library-sheets SEED COUNT SERVER   its reader and writer of sheets
   independent compare-exports SEED COUNT SERVER          its cmm_read_flow on generated exports
   independent pattern-sums FIRST COUNT           checksums of all good samples, in blocks of 2^20, 0 to 4095
   independent show-call SEED NUMBER              the call with this number, and the own answer to it
+  independent limit-ways SEED WINDOWS            the own ways of a lower limit held to each other
   independent selfcheck                          the own implementation held to document 01's numbers";
 
 fn main() -> ExitCode {
@@ -124,11 +132,13 @@ fn run(words: &[&str]) -> Option<bool> {
         ["compare-command", row, seed, count, words @ ..] => compare_command(row, seed, count, words),
         ["compare-flow", row, seed, count, "--", command @ ..] => compare_flow(row, seed, count, command),
         ["compare-calls", seed, count, server @ ..] => compare_calls(seed, count, server),
+        ["compare-limits", seed, windows, server @ ..] => compare_limits(seed, windows, server),
         ["compare-library", seed, count, row, server @ ..] => compare_library(seed, count, row, server),
         ["compare-library-sheets", seed, count, server @ ..] => compare_library_sheets(seed, count, server),
         ["compare-exports", seed, count, server @ ..] => compare_exports(seed, count, server),
         ["pattern-sums", first, count] => pattern_sums(first.parse().ok()?, count.parse().ok()?),
         ["show-call", seed, number] => Some(show_call(seed.parse().ok()?, number.parse().ok()?)),
+        ["limit-ways", seed, windows] => limit_ways(seed.parse().ok()?, windows.parse().ok()?),
         ["selfcheck"] => Some(selfcheck::run()),
         _ => None,
     }
@@ -213,6 +223,26 @@ fn compare_calls(seed: &str, count: &str, server: &[&str]) -> Option<bool> {
     let (seed, count, library) = (seed.parse().ok()?, count.parse().ok()?, Library::new(server)?);
     let summary = compare::compare(count, &|number| compare_calls::judge(seed, number, &library));
     Some(summary.conclude("calls", count, &compare_calls::wanted()))
+}
+
+fn compare_limits(seed: &str, windows: &str, server: &[&str]) -> Option<bool> {
+    let (seed, windows, library) = (seed.parse().ok()?, windows.parse().ok()?, Library::new(server)?);
+    Some(over_windows(windows, &|number| compare_limits::judge(seed, number, &library)))
+}
+
+fn limit_ways(seed: u64, windows: usize) -> Option<bool> {
+    let farthest = Farthest::default();
+    let is_well = over_windows(windows, &|number| limit_ways::judge(seed, number, &farthest));
+    println!("{}", farthest.text());
+    Some(is_well)
+}
+
+/// Calls until there are so many windows of lower limits.
+fn over_windows(windows: usize, judge: &(dyn Fn(usize) -> Judged + Sync)) -> bool {
+    let count = limit_rows::calls_with(windows);
+    let summary = compare::compare(count, judge);
+    println!("{} windows", (0..count).map(limit_rows::windows).sum::<usize>());
+    summary.conclude_from(compare_limits::ENOUGH, "calls", count, &limit_kinds::wanted())
 }
 
 fn compare_library(seed: &str, count: &str, row: &str, server: &[&str]) -> Option<bool> {

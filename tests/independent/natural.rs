@@ -110,12 +110,9 @@ impl Fraction {
         terms.pop().unwrap_or(Fraction::new(0, 1))
     }
 
-    /// How far apart the two are.
-    pub fn distance(&self, other: &Fraction) -> Fraction {
-        Fraction {
-            above: self.above.times(&other.below).distance(&other.above.times(&self.below)),
-            below: self.below.times(&other.below),
-        }
+    /// How far it is from the whole number.
+    pub fn distance(&self, whole: u128) -> Fraction {
+        Fraction { above: self.above.distance(&Natural::of(whole).times(&self.below)), below: self.below.clone() }
     }
 
     pub fn times(&self, other: &Fraction) -> Fraction {

@@ -139,14 +139,18 @@ fn naturals(checks: &mut Checks) {
         checks.same("a product", x.times(&y), Natural::of(a as u128 * b as u128));
         checks.same("a sum", x.plus(&y), Natural::of(a as u128 + b as u128));
         checks.same("an order", x.cmp(&y), a.cmp(&b));
+        checks.same("a distance", [x.distance(&y), y.distance(&x)], [0; 2].map(|_| Natural::of(a.abs_diff(b) as u128)));
         // (f + x)(f + y) = f f + f (x + y) + x y, far beyond 128 bits
         let wide = factorial.plus(&x).times(&factorial.plus(&y));
         let parts = factorial.times(&factorial).plus(&factorial.times(&x.plus(&y))).plus(&x.times(&y));
         checks.same("a wide product", wide.clone(), parts);
+        checks.same("a wide distance", factorial.distance(&wide).plus(&factorial), wide.clone());
         checks.same("a wide order", wide < wide.plus(&Natural::of(1)), true);
         let carried = Natural::of(u128::MAX).plus(&Natural::of(1)).times(&x);
         checks.same("a carry", carried, Natural::of(u64::MAX as u128 + 1).times(&x).times(&Natural::of(1 << 64)));
     }
+    let power = Natural::of(1 << 127).times(&Natural::of(1 << 127));
+    checks.same("a borrow", power.distance(&Natural::of(1)).plus(&Natural::of(1)), power);
     checks.same("an order of lengths", Natural::of(1 << 64) > Natural::of(u64::MAX as u128), true);
     checks.same(
         "nothing",
@@ -163,6 +167,11 @@ fn fractions(checks: &mut Checks) {
     checks.same("no term", borders(&sum(&[])), [true, true, false, false]);
     let sevenths = sum(&[(1, 7); 14]);
     checks.same("fourteen sevenths", (sevenths.at_least(2), sevenths.at_least(3)), (true, false));
+    let orders = |one: &Fraction, other: &Fraction| (one.at_most(other), other.at_most(one));
+    let half = Fraction::new(7, 2);
+    checks.same("7/2 from 3 and from 4", orders(&half.distance(3), &half.distance(4)), (true, true));
+    checks.same("7/2 from 3, squared", orders(&half.distance(3).squared(), &Fraction::new(2, 8)), (true, true));
+    checks.same("a third of 7/2 and 1", orders(&half.over(3), &Fraction::new(1, 1)), (false, true));
 }
 
 /// The worked interval has no rounding in it: without fuel it reduces 36,335,658,750 mg exactly.

@@ -1,17 +1,24 @@
-//! The part of the self-check about lower limits: numbers worked out by hand, and the three ways held to each other.
+//! The part of the self-check about lower limits: numbers worked out by hand, windows on the border, the three ways held
+//! to each other, and what the generator of windows reaches.
 
-use crate::draw;
-use crate::gaps::{lower_limit, lower_limit_by_fractions, lower_limit_by_root};
+use crate::border_windows::{apart, together, window, Side, Target, LEVELS};
+use crate::compare_limits::ENOUGH;
+use crate::draw::{CH4_MAX, FLOW_MAX};
+use crate::gaps::statistics;
+use crate::limit_kinds::{self, wanted};
+use crate::limit_rows;
+use crate::limit_ways::{earlier_limit, judge, three_ways, Farthest};
 use crate::rng::Rng;
 use crate::selfcheck::Checks;
+use std::collections::BTreeSet;
 
 pub fn run(checks: &mut Checks) {
     by_hand(checks);
-    drawn(checks);
-}
-
-fn three_ways(values: &[u16], z2: i128) -> [u16; 3] {
-    [lower_limit, lower_limit_by_root, lower_limit_by_fractions].map(|limit| limit(values, z2))
+    equal_by_hand(checks);
+    equal_distances(checks);
+    beside_border(checks);
+    three_of_all(checks);
+    in_turn(checks);
 }
 
 /// So many of one value and so many of another.
@@ -33,15 +40,72 @@ fn by_hand(checks: &mut Checks) {
     ] {
         checks.same(what, three_ways(&values, z2), [wanted; 3]);
     }
+    checks.same("earlier rule", earlier_limit(&two(96, 0, 96, 2_000), 271), 881);
 }
 
-fn drawn(checks: &mut Checks) {
+/// Less 1,000 the values of the first add to 4,336 and their squares to 6,999,388, so that n Q2 - S² is 1,325,081,600;
+/// 271 of these are 359,097,113,600, and so are 19,100 × 4,336². Of the second 3,696, 3,565,716, 2,040,192,000, and 385
+/// of these, 785,473,920,000, are 57,500 × 3,696².
+fn equal_by_hand(checks: &mut Checks) {
+    let first = [two(185, 1_000, 4, 1_001), vec![1_940, 3_122, 2_270]].concat();
+    let second = [two(570, 1_000, 4, 1_529), vec![1_016, 2_564]].concat();
+    for (mut values, z2) in [(first, 271), (second, 385)] {
+        checks.same("on the border", three_ways(&values, z2), [1_000; 3]);
+        (values[0], values[1]) = (999, 1_001);
+        checks.same("the least step outside", three_ways(&values, z2), [999; 3]);
+    }
+}
+
+/// Every distance of a period: the condition can be an equation at multiples of `equal` alone.
+fn equal_distances(checks: &mut Checks) {
+    for level in LEVELS {
+        let spare = |distance: i128| level.spare(level.n - 1, distance, level.widest(level.n - 1, distance));
+        let found: Vec<i128> = (1..=level.step()).filter(|&distance| spare(distance) == 0).collect();
+        let multiples: Vec<i128> = (1..=level.step() / level.equal).map(|k| k * level.equal).collect();
+        checks.same("distances with equality", found, multiples);
+    }
+}
+
+/// Windows that are made are where they should be: S and Q2 as solved for, and L or one less as the limit.
+fn beside_border(checks: &mut Checks) {
     let rng = Rng::new(1, 0);
-    for _ in 0..2_000 {
-        let (n, z2) = rng.pick(&[(192, 271), (576, 385)]);
-        let max = rng.pick(&[draw::FLOW_MAX, draw::CH4_MAX]);
-        let values: Vec<u16> = draw::readings(&rng, n, max, rng.pick(&draw::STYLES)).into_iter().flatten().collect();
-        let [direct, root, fractions] = three_ways(&values, z2);
-        checks.same("limit, three ways", [root, fractions], [direct; 2]);
+    let mut made = 0;
+    while made < 200 {
+        let (level, max) = (rng.pick(&LEVELS), rng.pick(&[FLOW_MAX, CH4_MAX]));
+        let (side, inside) = rng.pick(&[(Side::On, true), (Side::NearestInside, true), (Side::NearestOutside, false)]);
+        let Some(target) = Target::draw(&rng, level, max, side, Some(rng.between(2, 5_000) as i128)) else {
+            continue;
+        };
+        let Some([first, second]) = window(&rng, &target, false) else {
+            continue;
+        };
+        let limit = |halves: [&[u16]; 2]| three_ways(&halves.concat(), level.z2);
+        let (_, sum, spread) = statistics(&[&first[..], &second].concat());
+        checks.same("sums of a made window", (sum, spread), (target.sum, target.spread()));
+        let own = limit([&first, &second]);
+        let beside = if inside { limit([&apart(&first), &second]) } else { limit([&together(&first), &second]) };
+        let (lower, higher) = if inside { (beside, own) } else { (own, beside) };
+        checks.same("both sides of the border", higher, lower.map(|lower| lower + 1));
+        made += 1;
+    }
+}
+
+/// The windows of some calls, by all ways and by the earlier rule.
+fn three_of_all(checks: &mut Checks) {
+    let farthest = Farthest::default();
+    for number in 0..ENOUGH {
+        checks.same("limits of a call", judge(1, number, &farthest).difference, None);
+    }
+}
+
+/// So many calls have every kind that is wanted of them, whatever the seed.
+fn in_turn(checks: &mut Checks) {
+    for seed in [2, 3] {
+        let mut met = BTreeSet::new();
+        for number in 0..ENOUGH {
+            met.extend(limit_kinds::of_record(&limit_rows::generate(seed, number)));
+        }
+        let lacking: Vec<String> = wanted().into_iter().filter(|kind| !met.contains(kind)).collect();
+        checks.same("kinds that a turn lacks", lacking, vec![]);
     }
 }
