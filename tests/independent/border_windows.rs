@@ -1,5 +1,5 @@
-//! Windows on the border of the lower limit's condition, and as near to it as windows can lie. Sum and sum of squares are
-//! solved for, and then values that have both: windows that are merely drawn never meet these.
+//! Windows on the border of the lower limit's condition, and as near to it as windows can lie. Sum and sum of squares
+//! are solved for, and then values that have both: windows that are merely drawn seldom or never lie there.
 
 use crate::rng::Rng;
 use std::sync::OnceLock;
@@ -11,9 +11,10 @@ pub struct Level {
     pub z2: i128,
     /// The condition can be an equation where S - nL is a multiple of this, and, but for equal values, nowhere else.
     ///
-    /// 271 is prime and 100 × 191 is no multiple of it, so S - nL is 271 d and n Q2 - S² is 271 × 19,100 d². The sum of
-    /// squares is odd just where the sum is, so it must leave what n (S - nL) - (S - nL)² leaves, divided by 2 n = 384:
-    /// 19,371 d² - 192 d is a multiple of 384, and so d of 16. With 77, 11,500 and 1,152 in their places, d of 48.
+    /// 271 is prime and 19,100 no multiple of it, so S - nL is 271 d and n Q2 - S² is 271 × 19,100 d². Since Q2 is odd
+    /// just where S is, n Q2 - S² leaves by 2 n = 384 what n (S - nL) - (S - nL)² leaves: 19,371 d² - 192 d is a
+    /// multiple of 384, and so d of 16. For 576 values it is 77 d, 77 × 11,500 d², and 11,577 d² - 576 d of 1,152, and
+    /// so d of 48.
     pub equal: i128,
 }
 
@@ -58,7 +59,7 @@ impl Level {
     }
 }
 
-/// The least amount, and the distances of a period at which a window has it: what is spared repeats with `step`.
+/// The least amount, and the distances at which a window has it: up to `step`, after which what is spared repeats.
 struct Nearest {
     spares: (i128, Vec<i128>),
     lacks: (i128, Vec<i128>),
@@ -196,9 +197,9 @@ fn shape(rng: &Rng, target: &Target, outliers: bool) -> Option<Vec<u16>> {
 
 /// How many of n values may be the high ones if they and the low ones are to stay within the range.
 fn draw_high_ones(rng: &Rng, n: f64, deviation: f64, below: f64, above: f64) -> Option<f64> {
-    let part = |odds: f64| n * odds / (1.0 + odds);
-    let fewest = part((deviation / above).powi(2)).ceil().max(1.0);
-    let most = part((below / deviation).powi(2)).floor().min(n - 1.0);
+    let part = |ratio: f64| n * ratio * ratio / (1.0 + ratio * ratio);
+    let fewest = part(deviation / above).ceil().max(1.0);
+    let most = part(below / deviation).floor().min(n - 1.0);
     (fewest <= most).then(|| rng.between(fewest as i64, most as i64) as f64)
 }
 

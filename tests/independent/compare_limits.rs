@@ -1,5 +1,5 @@
-//! `cmm_quantify` on rows full of gaps with a lower limit, each limit worked out in exact fractions. Compared as any other
-//! call is.
+//! `cmm_quantify` on rows full of gaps with a lower limit, each limit worked out in exact fractions. Compared as any
+//! other call is.
 
 use crate::call::Call;
 use crate::compare::Judged;

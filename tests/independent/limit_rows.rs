@@ -1,5 +1,5 @@
-//! Calls whose rows are full of gaps with a lower limit, in flow and in CH4. Between two gaps there is just one window's
-//! half, which serves both. What a long run must meet (`limit_kinds`) comes in turn, whatever is drawn.
+//! Records whose rows are full of gaps with a lower limit, in flow and in CH4. Between two gaps there is just half a
+//! window, which serves both. What a long run must meet (`limit_kinds`) comes in turn, whatever is drawn.
 
 use crate::border_windows::{apart, shuffle, together, window, with_outlier, Level, Side, Target, LEVELS};
 use crate::draw::{self, cut, Style, CH4_MAX, FLOW_MAX, STYLES};
@@ -44,7 +44,7 @@ impl Layout {
 /// The call's devices, by its number alone. The first one's flow fills its row from end to end.
 fn layouts(number: usize) -> Vec<Layout> {
     let devices = [1, 2, 1, 3][number % 4];
-    let is_year = number % 32 == 31;
+    let is_year = number % 33 == 32;
     let length = if is_year { MOST_INTERVALS as usize } else { [4_000, 6_000, 9_000][number / 4 % 3] };
     let layout = |device: usize, n: usize| {
         let level = (number + device) % 2;
@@ -175,7 +175,7 @@ fn one_changed(rng: &Rng, level: Level, max: u16) -> Option<Halves> {
     falls_and_rises(level, vec![first, second, third, fourth])
 }
 
-/// A value far above the others is one higher, and the limit one lower; another is one lower, and the limit is as before.
+/// A value far above the others is one higher, and the limit one lower; another is one lower, and the limit rises.
 fn outlier_changed(rng: &Rng, level: Level, max: u16) -> Option<Halves> {
     let target = Target::draw(rng, level, max, Side::Inside(level.n - 1), None)?;
     let [first, second] = window(rng, &target, true)?;

@@ -1,5 +1,5 @@
-//! The part of the self-check about lower limits: numbers worked out by hand, windows on the border, the three ways held
-//! to each other, and what the generator of windows reaches.
+//! The part of the self-check about lower limits: numbers worked out by hand, windows on the border, the three ways
+//! held to each other, and what the generator of windows reaches.
 
 use crate::border_windows::{apart, together, window, Side, Target, LEVELS};
 use crate::compare_limits::ENOUGH;
