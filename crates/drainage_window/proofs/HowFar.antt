@@ -3,15 +3,15 @@
 -- Assumes nothing.
 use Prim.Native.Nat.{ℕ, _+_, _-_, _*_, _≤_, _<_}
 use mathlib.Core.Path.{_≡_, refl, sym, ap, _∙_, subst}
-use mathlib.Core.List.{List, [], _∷_, map}
+use mathlib.Core.List.{List, [], _∷_, _++_, map}
 use native.Mathlib.Nat.{le-of-lt, le-trans, add-le-add, le-refl, mul-le-mul-left, mul-le-mul, lt-of-not-le}
 use native.Mathlib.Decide.{decLe}
 use native.Mathlib.Omega.{arith}
-use lib.ListN.{length}
+use lib.ListN.{length, replicate}
 use Rattle.rows.specs.Rows.{total}
 use Rattle.protocol.specs.Ranges.{flowMost, contentMost}
 use Rattle.drainage_window.specs.declared.Tally.{Tally}
-use Rattle.drainage_window.specs.Window.{tallyOf, Meets, IsLimit, spreadOf, limitOf, z90, z95, width90, width95}
+use Rattle.drainage_window.specs.Window.{tallyOf, meanOf, Meets, IsLimit, spreadOf, meets, greatestUpTo, limitOf, z90, z95, width90, width95}
 use Rattle.drainage_window.specs.Sizes.{Low}
 use Rattle.drainage_window.proofs.Laws.{low-head, low-tail, total-most, tally-count, moved-meets, limit-is}
 use Rattle.drainage_window.proofs.Earlier.{MetEarlier, IsEarlierLimit, earlierLimitOf, earlier-moved, earlier-is}
@@ -142,3 +142,12 @@ content-90 xs e l = lower 192 contentMost z90 2 xs e (omega arith) l (omega arit
 
 pub content-95 : (xs : List ℕ) → length xs ≡ 2 * width95 → Low contentMost xs → earlierLimitOf (tallyOf xs) z95 ≤ limitOf (tallyOf xs) z95 + 1
 content-95 xs e l = lower 576 contentMost z95 1 xs e (omega arith) l (omega arith)
+
+-- ---- Examples: each of the four is reached
+abbrev fallen : ℕ → List ℕ → ℕ
+fallen z xs = earlierLimitOf (tallyOf xs) z - limitOf (tallyOf xs) z
+
+reached : (fallen z90 (replicate 88 0 ++ replicate 104 30000) ≡ 5) × (fallen z95 (2000 ∷ replicate 282 0 ++ replicate 293 30000) ≡ 2)
+    × (fallen z90 (replicate 89 0 ++ replicate 103 10000) ≡ 2) × (fallen z95 (replicate 280 0 ++ replicate 296 10000) ≡ 1)
+unfolding earlierLimitOf limitOf meanOf tallyOf meets greatestUpTo
+reached = (refl, refl, refl, refl)
