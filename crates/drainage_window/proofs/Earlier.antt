@@ -1,12 +1,10 @@
 -- The limit beside that of the landings before request 4, whose condition took a window for the whole population: n stood
 -- where n - 1 stands now. For the same window the limit is never above the earlier one, so no record gains by the change.
 -- Assumes nothing.
-use Prim.Native.Nat.{ℕ, _+_, _-_, _*_, _≤_, _<_, zero-le}
+use Prim.Native.Nat.{ℕ, _-_, _*_, _≤_, _<_}
 use mathlib.Core.Path.{_≡_, refl}
-use mathlib.Core.Bool.{true, false}
 use mathlib.Core.List.{_++_}
-use native.Mathlib.Nat.{le-trans, add-le-add, le-refl, mul-le-mul-left, mul-le-mul, lt-of-le-of-lt, lt-of-not-le}
-use native.Mathlib.Decide.{decLe}
+use native.Mathlib.Nat.{le-trans, add-le-add, le-refl, mul-le-mul-left, mul-le-mul}
 use native.Mathlib.Omega.{arith}
 use lib.IntN.{ℤ, pos, _-ℤ_, _*ℤ_}
 use lib.ListN.{replicate}
@@ -15,7 +13,7 @@ use Rattle.rows.proofs.Truth.{clash}
 use Rattle.drainage_window.specs.declared.Tally.{Tally}
 use Rattle.drainage_window.specs.Window.{tallyOf, meanOf, Meets, IsLimit, greatestUpTo, limitOf, z90}
 use Rattle.drainage_window.proofs.Laws.{Moved, moved, moved-first, moved-second, passes, passes-moved, moved-passes, meets-moved}
-use Rattle.drainage_window.proofs.Laws.{no-room, greatest-is, limit-is}
+use Rattle.drainage_window.proofs.Laws.{no-room, greatest-is, no-more, limit-is}
 
 -- the two conditions as rule 7.7 had them, and the limit by them
 pub record EarlierCondition (n S Q2 z L : ℤ) : Type 0 where
@@ -73,11 +71,7 @@ met-earlier t z L p c =
 
 -- the limit is at most the earlier one of the same window
 pub never-above : (t : Tally) (z L M : ℕ) → 0 < t .n → IsLimit t z L → IsEarlierLimit t z M → L ≤ M
-never-above t z L M p x y =
-    elim (decLe L M) [
-      | yes l ↦ l
-      | no n ↦ absurd (y .greatest L (lt-of-not-le n) (met-earlier t z L p (x .reached (lt-of-le-of-lt (zero-le) (lt-of-not-le n)))))
-    ]
+never-above t z L M p x y = no-more (MetEarlier t z) L M (λ h. met-earlier t z L p (x .reached h)) (y .greatest)
 
 pub limit-never-above : (t : Tally) (z : ℕ) → 0 < t .n → limitOf t z ≤ earlierLimitOf t z
 limit-never-above t z p = never-above t z (limitOf t z) (earlierLimitOf t z) p (limit-is t z p) (earlier-is t z p)

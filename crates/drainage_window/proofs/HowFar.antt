@@ -13,7 +13,7 @@ use Rattle.protocol.specs.Ranges.{flowMost, contentMost}
 use Rattle.drainage_window.specs.declared.Tally.{Tally}
 use Rattle.drainage_window.specs.Window.{tallyOf, meanOf, Meets, IsLimit, spreadOf, meets, greatestUpTo, limitOf, z90, z95, width90, width95}
 use Rattle.drainage_window.specs.Sizes.{Low}
-use Rattle.drainage_window.proofs.Laws.{low-head, low-tail, total-most, tally-count, moved-meets, limit-is}
+use Rattle.drainage_window.proofs.Laws.{low-head, low-tail, total-most, tally-count, moved-meets, no-more, limit-is}
 use Rattle.drainage_window.proofs.Earlier.{MetEarlier, IsEarlierLimit, earlierLimitOf, earlier-moved, earlier-is}
 
 -- values of at most b, with m for n - 1: they cannot lower the limit by more than k
@@ -97,15 +97,8 @@ met-below t z b k M w h c =
 pub never-far : (t : Tally) (z b k L M : ℕ) → Within b t → LowersAtMost (t .n - 1) b z k
     → IsLimit t z L → IsEarlierLimit t z M → M ≤ L + k
 never-far t z b k L M w h x y =
-    elim (decLe M (L + k)) [
-      | yes l ↦ l
-      | no f ↦ absurd (beyond (M - k) refl (lt-of-not-le f))
-    ]
-  where
-    beyond : (K : ℕ) → K ≡ M - k → L + k < M → ⊥
-    beyond K e l =
-        x .greatest K (omega arith)
-        (met-below t z b k K w h (subst (MetEarlier t z) (let q : M ≡ K + k = omega arith in q) (y .reached (let q : 0 < M = omega arith in q))))
+    no-more (MetEarlier t z) M (L + k) (y .reached)
+    (λ K l m. x .greatest (K - k) (omega arith) (met-below t z b k (K - k) w h (subst (MetEarlier t z) (let e : K ≡ K - k + k = omega arith in e) m)))
 
 -- of the values themselves
 squares-sum : (b : ℕ) (xs : List ℕ) → Low b xs → total (map (λ v. v * v) xs) ≤ b * total xs

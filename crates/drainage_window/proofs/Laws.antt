@@ -297,16 +297,18 @@ limit-is t z p =
     greatest-is (meets t z) (Meets t z) (meanOf t) (λ M. meets-true t z M p) (λ M. meets-false t z M p) (λ M. above-mean t z M p) in
     record { reached = found .0; greatest = found .1 }
 
-no-less : (t : Tally) (z L M : ℕ) → IsLimit t z L → IsLimit t z M → M ≤ L
-no-less t z L M x y =
-    elim (decLe M L) [
+-- a number that is reached is not above one that nothing greater meets
+pub no-more : (P : ℕ → Type 0) (L M : ℕ) → (0 < L → P L) → ((K : ℕ) → M < K → P K → ⊥) → L ≤ M
+no-more P L M reached greatest =
+    elim (decLe L M) [
       | yes l ↦ l
-      | no n ↦ absurd (x .greatest M (lt-of-not-le n) (y .reached (lt-of-le-of-lt (zero-le) (lt-of-not-le n))))
+      | no n ↦ absurd (greatest L (lt-of-not-le n) (reached (lt-of-le-of-lt (zero-le) (lt-of-not-le n))))
     ]
 
 -- there is one limit
 pub limit-unique : (t : Tally) (z L M : ℕ) → IsLimit t z L → IsLimit t z M → L ≡ M
-limit-unique t z L M x y = le-antisymm (no-less t z M L y x) (no-less t z L M x y)
+limit-unique t z L M x y =
+    le-antisymm (no-more (Meets t z) L M (x .reached) (y .greatest)) (no-more (Meets t z) M L (y .reached) (x .greatest))
 
 -- whatever is a limit is the computed one
 pub limit-of : (t : Tally) (z L : ℕ) → 0 < t .n → IsLimit t z L → L ≡ limitOf t z
