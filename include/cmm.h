@@ -54,7 +54,7 @@
 #include <stdint.h>
 
 /* The version of this header: the number of the latest note in docs/landings. cmm_version() gives the library's own, and a host that
- * finds the two different must not call it: arrays may have other lengths. */
+ * finds the two different must not call it: arrays may have other lengths. README.md lists the versions that changed figures. */
 #define CMM_VERSION 6
 
 #ifdef __cplusplus
