@@ -1,6 +1,5 @@
 -- The limit beside that of the landings before request 4, whose condition took a window for the whole population: n stood
--- where n - 1 stands now. For the same window the limit is never above the earlier one, so no replacement rises by the
--- change.
+-- where n - 1 stands now. For the same window the limit is never above the earlier one, so no replacement rose by it.
 -- Assumes nothing.
 use Prim.Native.Nat.{ℕ, _-_, _*_, _≤_, _<_}
 use mathlib.Core.Path.{_≡_, refl}
