@@ -69,13 +69,13 @@ widened n m s q b z k d e hq hs hz met =
     Near w = d ≤ 2 * (k * (w * m)) → w * (d * d) ≤ m * ((d + w * k) * (d + w * k))
 
 -- values of at most b, in what this needs of them
-pub record Within (b : ℕ) (t : Tally) : Type 0 where
+pub record UpTo (b : ℕ) (t : Tally) : Type 0 where
   pub some : 0 < t .n
   pub sum : t .sum ≤ t .n * b
   pub squares : t .squares ≤ b * t .sum
 
 -- k below what met the earlier conditions, these are met
-met-below : (t : Tally) (z b k M : ℕ) → Within b t → LowersAtMost (t .n - 1) b z k
+met-below : (t : Tally) (z b k M : ℕ) → UpTo b t → LowersAtMost (t .n - 1) b z k
     → MetEarlier t z (M + k) → Meets t z M
 met-below t z b k M w h c =
     let e = earlier-moved t z (M + k) c in
@@ -94,7 +94,7 @@ met-below t z b k M w h c =
     one-more l = omega arith
 
 -- the limit is at most k below the earlier one
-pub never-far : (t : Tally) (z b k L M : ℕ) → Within b t → LowersAtMost (t .n - 1) b z k
+pub never-far : (t : Tally) (z b k L M : ℕ) → UpTo b t → LowersAtMost (t .n - 1) b z k
     → IsLimit t z L → IsEarlierLimit t z M → M ≤ L + k
 never-far t z b k L M w h x y =
     no-more (MetEarlier t z) M (L + k) (y .reached)
@@ -108,16 +108,16 @@ squares-sum b (x ∷ xs) l =
     let g : x * x ≤ b * x = mul-le-mul (low-head b x xs l) (le-refl x) in
     omega arith
 
-within : (b : ℕ) (xs : List ℕ) → 0 < length xs → Low b xs → Within b (tallyOf xs)
+up-to : (b : ℕ) (xs : List ℕ) → 0 < length xs → Low b xs → UpTo b (tallyOf xs)
 unfolding tallyOf
-within b xs p l = record { some = p; sum = total-most b xs l; squares = squares-sum b xs l }
+up-to b xs p l = record { some = p; sum = total-most b xs l; squares = squares-sum b xs l }
 
 -- n values of at most b
 lower : (n b z k : ℕ) (xs : List ℕ) → length xs ≡ n → 0 < n → Low b xs → LowersAtMost (n - 1) b z k
     → earlierLimitOf (tallyOf xs) z ≤ limitOf (tallyOf xs) z + k
 lower n b z k xs e p l h =
     let count : n ≡ tallyOf xs .n = sym (tally-count xs ∙ e) in
-    let w = within b xs (subst (λ (m : ℕ). 0 < m) (sym e) p) l in
+    let w = up-to b xs (subst (λ (m : ℕ). 0 < m) (sym e) p) l in
     never-far (tallyOf xs) z b k (limitOf (tallyOf xs) z) (earlierLimitOf (tallyOf xs) z) w
     (subst (λ (m : ℕ). LowersAtMost (m - 1) b z k) count h)
     (limit-is (tallyOf xs) z (w .some))

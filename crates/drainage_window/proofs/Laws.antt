@@ -297,7 +297,7 @@ limit-is t z p =
     greatest-is (meets t z) (Meets t z) (meanOf t) (λ M. meets-true t z M p) (λ M. meets-false t z M p) (λ M. above-mean t z M p) in
     record { reached = found .0; greatest = found .1 }
 
--- a number that is reached is not above one that nothing greater meets
+-- a number that meets what is asked, or 0, is at most M if nothing above M meets it
 pub no-more : (P : ℕ → Type 0) (L M : ℕ) → (0 < L → P L) → ((K : ℕ) → M < K → P K → ⊥) → L ≤ M
 no-more P L M reached greatest =
     elim (decLe L M) [

@@ -85,7 +85,7 @@ limit-example : limitOf (tallyOf (replicate 96 0 ++ replicate 96 2000)) z90 ≡ 
 unfolding limitOf meanOf tallyOf meets greatestUpTo
 limit-example = refl
 
--- the same for 95 %: 575 × 90² is below 3.85 × 1,100², 576 × 90² is not, so this tells n - 1 from n
+-- beside rule 15.1: 575 × 90² is below 3.85 × 1,100² and 576 × 90² is not, so this tells n - 1 from n at 95 %
 limit-95-example : limitOf (tallyOf (replicate 288 0 ++ replicate 288 2200)) z95 ≡ 1009
 unfolding limitOf meanOf tallyOf meets greatestUpTo
 limit-95-example = refl
