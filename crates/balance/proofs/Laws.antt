@@ -17,7 +17,8 @@ use Rattle.rows.proofs.Sums.{sumTo-ext, sumTo-add, sumTo-bound}
 use Rattle.protocol.specs.Kinds.{thousandthsOf}
 use Rattle.protocol.specs.Numbers.{methaneMg}
 use Rattle.protocol.proofs.KindLaws.{thousandths-most}
-use Rattle.balance.specs.Balance.{ceilDiv, destroyedOf, uncombustedOf, baselineMg, carbonDioxideMg, uncombustedMg, overDevices, baselineAll}
+use Rattle.protocol.specs.Rounding.{ceilDiv}
+use Rattle.balance.specs.Balance.{destroyedOf, uncombustedOf, baselineMg, carbonDioxideMg, uncombustedMg, overDevices, baselineAll}
 use Rattle.balance.specs.Balance.{carbonDioxideAll, uncombustedAll, reductionOf, reductionAll, tonnesOf, IsTonnes, creditsOf, tonne, deviceMost, Moderate}
 use Rattle.protocol.proofs.Integers.{Is, Floor, above, below, is-self, is-pos, is-mag, is-minus, is-times, is-le, le-is, is-same, is-floor, sub-le, sub-lt}
 use Rattle.protocol.proofs.Integers.{by-order}

@@ -7,10 +7,7 @@ use lib.Signed.{shrZ, _≤ℤ_}
 use Rattle.rows.specs.Rows.{sumTo}
 use Rattle.protocol.specs.Numbers.{protocol, methaneMg, carbonMg}
 use Rattle.protocol.specs.Kinds.{thousandthsOf}
-
--- rule 1.5: ceil (a / b)
-abbrev pub ceilDiv : ℕ → ℕ → ℕ
-ceilDiv a b = (a + (b - 1)) / b
+use Rattle.protocol.specs.Rounding.{ceilDiv}
 
 -- rule 9.4: the litres of Q that a device of this kind destroys, rounded down
 unfoldable pub destroyedOf : ℕ → ℕ → ℕ
