@@ -95,7 +95,7 @@ pub record Accounted (c : Call) (after : Results) (f : Figures) : Type 0 where
   pub destroyed-sum : f .«destroyed_l» ≡ sumTo (c .devices) (destroyedGiven after)
   pub uncombusted-sum : f .«uncombusted_l» ≡ sumTo (c .devices) (uncombustedGiven after)
   -- Demand 3 (rule 16.6): the tonnes never exceed the exact reduction over the values used (rule 10.3), and fall short of it by
-  -- less than 1 tonne, 25 g for each device-interval and 13 g for each device that the sheet counts (rule 10.4)
+  -- less than 1 tonne, 13 g for each device-interval and 13 g for each device that the sheet counts (rule 10.4)
   pub fair : Fair (exactReduction (usedIn c after)) (f .tonnes) (promised (f .counted) (f .devices))
 
 -- what quantification promises of every call

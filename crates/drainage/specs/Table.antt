@@ -8,7 +8,7 @@ use lib.Dec.{eqb}
 use lib.IntN.{ℤ, pos, negsuc}
 use lib.ListN.{replicate}
 use Rattle.rows.specs.Rows.{both}
-use Rattle.volume.specs.Volume.{litresOf, methaneOf}
+use Rattle.volume.specs.Volume.{correctionDown, hundredthsOf, methaneLitresIn}
 use Rattle.drainage_drift.specs.Drift.{correctedAt, keptOr, corrected, stretchDrift, together}
 use Rattle.drainage_window.specs.Window.{tallyOf, meanOf, limitOf, meets, greatestUpTo, z90}
 use Rattle.balance.specs.Balance.{destroyedOf, uncombustedOf, carbonDioxideMg, tonnesOf, creditsOf}
@@ -36,10 +36,10 @@ drifted d = correctedAt (record { count = 1; positions = 1 ∷ []; drifts = d �
 
 table : List Line
 table =
-    says (litresOf 1000 (pos 2000) 101325) 100000
-    ∷ says (litresOf 1000 (pos 0) 101325) 107321
-    ∷ says (litresOf 1 (pos 10000) 50000) 38
-    ∷ says (methaneOf 3 4999) 1
+    says (hundredthsOf 1000 (pos 2000) 101325) 10000000
+    ∷ says (hundredthsOf 1000 (pos 0) 101325) 10732198
+    ∷ says (hundredthsOf 1 (pos 10000) 50000) 3876
+    ∷ says (methaneLitresIn 300 4999) 1
     ∷ says (drifted (pos 499)) 1000
     ∷ says (drifted (pos 500)) 952
     ∷ says (drifted (negsuc 599)) 1000
@@ -55,5 +55,5 @@ table =
 
 -- rule 15.1: the one statement, that every line agrees
 marked-numbers : agree table ≡ true
-unfolding table agree says sameℤ drifted litresOf methaneOf correctedAt keptOr corrected stretchDrift together meanOf limitOf tallyOf meets greatestUpTo tonnesOf creditsOf destroyedOf uncombustedOf carbonDioxideMg
+unfolding table agree says sameℤ drifted hundredthsOf correctionDown methaneLitresIn correctedAt keptOr corrected stretchDrift together meanOf limitOf tallyOf meets greatestUpTo tonnesOf creditsOf destroyedOf uncombustedOf carbonDioxideMg
 marked-numbers = refl

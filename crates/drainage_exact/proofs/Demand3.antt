@@ -3,20 +3,20 @@
 -- Assumes nothing.
 use Prim.Native.Nat.{ℕ, _+_, _*_, _/_, _≤_, _<_}
 use mathlib.Core.Path.{_≡_, refl, ap₂, _∙_, subst, subst₂}
-use native.Mathlib.Nat.{mul-pos, mul-comm, one-mul}
+use native.Mathlib.Nat.{mul-pos, mul-comm}
 use native.Mathlib.Omega.{arith}
 use lib.IntN.{ℤ, pos}
 use Rattle.rows.specs.Rows.{sumTo, pick}
 use Rattle.rows.proofs.Sums.{sumTo-add, sumTo-mul, sumTo-const}
-use Rattle.protocol.specs.Numbers.{protocol, methaneMg}
+use Rattle.protocol.specs.Numbers.{methaneMg}
 use Rattle.protocol.specs.Ranges.{kelvinOf, contentMost}
-use Rattle.volume.specs.Volume.{litresOf, methaneOf, methaneLitres}
+use Rattle.volume.specs.Volume.{correctionOver, correctionUnder, correctionDown, hundredthsFactor, hundredthsOf, methaneUnder, methaneLitresIn, methaneLitres}
 use Rattle.balance.specs.Balance.{destroyedOf, uncombustedOf, baselineMg, carbonDioxideMg, uncombustedMg, fuelMg, baselineAll, carbonDioxideAll}
 use Rattle.balance.specs.Balance.{uncombustedAll, reductionOf, reductionAll, tonnesOf}
 use Rattle.protocol.proofs.Integers.{is-sub}
 use Rattle.balance.proofs.Laws.{reduction-ext}
 use Rattle.fractions.specs.Fraction.{Fraction, over, asFraction, _-ᶠ_, _*ᶠ_, sumᶠ}
-use Rattle.drainage_exact.specs.Exact.{Used, Possible, exactLitres, exactMethane, exactQ, exactDeviceMg, exactReduction, reportedQ, reportedTonnes}
+use Rattle.drainage_exact.specs.Exact.{Used, Possible, exactHundredths, exactMethane, exactQ, exactDeviceMg, exactReduction, reportedQ, reportedTonnes}
 use Rattle.drainage_exact.specs.Exact.{intervalMg, deviceMg, promised}
 use Rattle.fractions.specs.Fair.{Fair}
 use Rattle.fractions.proofs.Near.{Near, near-all, near-minus, near-fair}
@@ -71,28 +71,22 @@ countedOf u d = sumTo (u .intervals) (λ k. pick (u .counted d k) 1 0)
 unfoldable pub countedAll : Used → ℕ
 countedAll u = sumTo (u .devices) (countedOf u)
 
--- at most 2 litres an interval, 14,007 mg a litre, 25 grams an interval and 13 a device
-covers : Covers 1 methaneMg intervalMg deviceMg
+-- at most 1.01 litres an interval, 14,007 mg a litre, 13 grams an interval and 13 a device
+covers : Covers 100 methaneMg intervalMg deviceMg
 covers =
     record { unit = omega arith; saves = 48691; is-saves = refl; per-interval = omega arith; per-device = omega arith }
 
 interval-close : (flow content : ℕ) (temp : ℤ) (press : ℕ) → 0 < kelvinOf temp → content ≤ contentMost
-    → Close 1 (exactMethane flow content temp press) (methaneLitres flow content temp press) 1
-unfolding exactMethane exactLitres methaneLitres methaneOf litresOf
+    → Close 100 (exactMethane flow content temp press) (methaneLitres flow content temp press) 1
+unfolding exactMethane exactHundredths methaneLitres methaneLitresIn hundredthsOf correctionDown
 interval-close flow content temp press h l =
-    subst (λ (s : ℕ). Close 1 (over top bottom *ᶠ over content 10000) (s / bottom * content / 10000) 1) (one-mul top)
-    (close-interval 1 1 10000 top bottom content (omega arith) (omega arith) (mul-pos h (let z : 0 < 101325 = omega arith in z)) (omega arith))
-  where
-    top : ℕ
-    top = flow * 100 * protocol .kelvin * press
+    close-interval 100 methaneUnder (correctionOver hundredthsFactor flow press) (correctionUnder temp) content
+    (omega arith) (mul-pos h (let z : 0 < 101325 = omega arith in z)) (omega (arith, l))
 
-    bottom : ℕ
-    bottom = kelvinOf temp * protocol .pascal
-
-q-close : (u : Used) → Possible u → (d : ℕ) → d < u .devices → Close 1 (exactQ u d) (reportedQ u d) (countedOf u d)
+q-close : (u : Used) → Possible u → (d : ℕ) → d < u .devices → Close 100 (exactQ u d) (reportedQ u d) (countedOf u d)
 unfolding exactQ reportedQ countedOf
 q-close u s d h =
-    close-row 1 (u .intervals) (u .counted d)
+    close-row 100 (u .intervals) (u .counted d)
     (λ k. exactMethane (u .flow d k) (u .content d k) (u .temp d k) (u .press d k))
     (λ k. methaneLitres (u .flow d k) (u .content d k) (u .temp d k) (u .press d k))
     (λ k l c. interval-close (u .flow d k) (u .content d k) (u .temp d k) (u .press d k) (s .warm d k h l c) (s .content-most d k h l c))

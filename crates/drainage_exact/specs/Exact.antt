@@ -9,7 +9,7 @@ use Rattle.rows.specs.Rows.{sumTo, pick}
 use Rattle.protocol.specs.Numbers.{protocol, methaneMg, carbonMg}
 use Rattle.protocol.specs.Kinds.{thousandthsOf}
 use Rattle.protocol.specs.Ranges.{kelvinOf, contentMost}
-use Rattle.volume.specs.Volume.{litresOf, methaneOf, methaneLitres}
+use Rattle.volume.specs.Volume.{correctionOver, correctionUnder, correctionDown, hundredthsFactor, hundredthsOf, methaneUnder, methaneLitresIn, methaneLitres}
 use Rattle.balance.specs.Balance.{fuelMg, reductionOf, reductionAll, baselineAll, carbonDioxideAll, uncombustedAll, baselineMg, carbonDioxideMg, uncombustedMg}
 use Rattle.balance.specs.Balance.{destroyedOf, uncombustedOf, tonnesOf}
 use Rattle.fractions.specs.Fraction.{Fraction, over, asFraction, _-ᶠ_, _*ᶠ_, sumᶠ, _≤ᶠ_}
@@ -36,14 +36,13 @@ pub record Possible (u : Used) : Type 0 where
 
 -- ---- exact
 
--- rule 9.1 without its rounding: litres at standard conditions
-unfoldable pub exactLitres : ℕ → ℤ → ℕ → Fraction
-exactLitres flow temp press =
-    over (flow * 100 * protocol .kelvin * press) (kelvinOf temp * protocol .pascal)
+-- rule 9.1 without its rounding: hundredths of a litre at standard conditions
+unfoldable pub exactHundredths : ℕ → ℤ → ℕ → Fraction
+exactHundredths flow temp press = over (correctionOver hundredthsFactor flow press) (correctionUnder temp)
 
--- rule 9.2 without its rounding
+-- rule 9.2 without its rounding: litres of methane
 unfoldable pub exactMethane : ℕ → ℕ → ℤ → ℕ → Fraction
-exactMethane flow content temp press = exactLitres flow temp press *ᶠ over content 10000
+exactMethane flow content temp press = exactHundredths flow temp press *ᶠ over content methaneUnder
 
 -- rule 9.3: over the counted intervals of device d
 unfoldable pub exactQ : Used → ℕ → Fraction
@@ -94,9 +93,9 @@ reportedTonnes u =
 
 -- ---- the distance between them
 
--- rule 10.4: 25 grams for each counted device-interval, in mg
+-- rule 10.4: 13 grams for each counted device-interval, in mg
 abbrev pub intervalMg : ℕ
-intervalMg = 25000
+intervalMg = 13000
 
 -- rule 10.4: 13 g for each device, in mg
 abbrev pub deviceMg : ℕ
@@ -125,15 +124,15 @@ example =
     }
 
 example-least : asFraction (pos 35635658750) ≤ᶠ exactReduction example
-unfolding example exactReduction exactDeviceMg exactUnburntMg exactCarbonMg exactDestroyed exactUncombusted exactQ exactMethane exactLitres fuelMg
+unfolding example exactReduction exactDeviceMg exactUnburntMg exactCarbonMg exactDestroyed exactUncombusted exactQ exactMethane exactHundredths fuelMg
 example-least = record { across = record { le = tt } }
 
 example-most : exactReduction example ≤ᶠ asFraction (pos 35635658750)
-unfolding example exactReduction exactDeviceMg exactUnburntMg exactCarbonMg exactDestroyed exactUncombusted exactQ exactMethane exactLitres fuelMg
+unfolding example exactReduction exactDeviceMg exactUnburntMg exactCarbonMg exactDestroyed exactUncombusted exactQ exactMethane exactHundredths fuelMg
 example-most = record { across = record { le = tt } }
 
 example-tonnes : reportedTonnes example ≡ pos 35
-unfolding example reportedTonnes reportedQ methaneLitres methaneOf litresOf tonnesOf reductionAll reductionOf baselineAll carbonDioxideAll uncombustedAll baselineMg carbonDioxideMg uncombustedMg destroyedOf uncombustedOf fuelMg
+unfolding example reportedTonnes reportedQ methaneLitres methaneLitresIn hundredthsOf correctionDown tonnesOf reductionAll reductionOf baselineAll carbonDioxideAll uncombustedAll baselineMg carbonDioxideMg uncombustedMg destroyedOf uncombustedOf fuelMg
 example-tonnes = refl
 
 example-distance : promised 1 1 ≡ intervalMg + deviceMg

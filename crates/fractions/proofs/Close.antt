@@ -1,10 +1,11 @@
 -- Litres that were rounded down, beside the exact ones: q whole litres of n counted intervals, each of which loses at most
--- 1 + 1/u litre. With rules 9.1 and 9.2 u is 1: less than a litre of volume, then less than a litre of methane.
+-- 1 + 1/u litre. With rules 9.1 and 9.2 u is 100: less than a hundredth of a litre of volume, then less than a litre of
+-- methane.
 -- Assumes nothing.
 use Prim.Native.Nat.{ℕ, zero, suc, _+_, _*_, _/_, _≤_, _<_}
 use mathlib.Core.Path.{_≡_, refl, ap, _∙_}
 use mathlib.Core.Bool.{Bool, true, false}
-use native.Mathlib.Nat.{mul-le-mul-left, mul-le-mul-right, mul-pos, mul-div-le, lt-mul-div-succ, le-of-mul-le-mul-left, le-step, lt-suc-self}
+use native.Mathlib.Nat.{mul-le-mul-left, mul-le-mul-right, mul-pos, mul-div-le, lt-mul-div-succ, le-step, lt-suc-self}
 use native.Mathlib.Omega.{arith}
 use lib.IntN.{ℤ, pos, _+ℤ_, _*ℤ_}
 use Rattle.rows.specs.Rows.{sumTo, pick}
@@ -61,37 +62,28 @@ close-row u (suc n) counted x q h =
 
 -- ---- one interval
 
--- the volume s / t in parts of 1/g litre, rounded down to h of them; then c / m of it in whole litres, rounded down to q
-part-low : (g m s t c h q : ℕ) → 0 < g → t * h ≤ g * s → m * g * q ≤ h * c → q * (t * m) ≤ s * c
-part-low g m s t c h q z a b =
-    le-of-mul-le-mul-left
-    (let f : t * h * c ≤ g * s * c = mul-le-mul-right c a in
-    let e : t * (m * g * q) ≤ t * (h * c) = mul-le-mul-left t b in
-    let w : g * (q * (t * m)) ≤ g * (s * c) = omega arith in
-    w)
-    z
+-- the volume s / t in parts, rounded down to h of them; then c / m of it in whole litres, rounded down to q
+part-low : (m s t c h q : ℕ) → t * h ≤ s → m * q ≤ h * c → q * (t * m) ≤ s * c
+part-low m s t c h q a b =
+    let f : t * h * c ≤ s * c = mul-le-mul-right c a in
+    let e : t * (m * q) ≤ t * (h * c) = mul-le-mul-left t b in
+    omega arith
 
-part-high : (u g m s t c h q : ℕ) → 0 < g → c * u ≤ g * m → g * s < t * (h + 1) → h * c < m * g * (q + 1)
-    → u * (s * c) ≤ (u * q + 1 * (1 + u)) * (t * m)
-part-high u g m s t c h q y z a b =
-    le-of-mul-le-mul-left
-    (let f : u * c * suc (g * s) ≤ u * c * (t * (h + 1)) = mul-le-mul-left (u * c) a in
-    let e : u * t * suc (h * c) ≤ u * t * (m * g * (q + 1)) = mul-le-mul-left (u * t) b in
-    let i : t * (c * u) ≤ t * (g * m) = mul-le-mul-left t z in
-    let w : g * (u * (s * c)) ≤ g * ((u * q + 1 * (1 + u)) * (t * m)) = omega arith in
-    w)
-    y
+part-high : (u m s t c h q : ℕ) → c * u ≤ m → s < t * (h + 1) → h * c < m * (q + 1) → u * (s * c) ≤ (u * q + 1 * (1 + u)) * (t * m)
+part-high u m s t c h q z a b =
+    let f : u * c * suc s ≤ u * c * (t * (h + 1)) = mul-le-mul-left (u * c) a in
+    let e : u * t * suc (h * c) ≤ u * t * (m * (q + 1)) = mul-le-mul-left (u * t) b in
+    let i : t * (c * u) ≤ t * m = mul-le-mul-left t z in
+    omega arith
 
-pub close-interval : (u g m s t c : ℕ) → 0 < g → 0 < m → 0 < t → c * u ≤ g * m
-    → Close u (over s t *ᶠ over c m) (g * s / t * c / (m * g)) 1
-close-interval u g m s t c g-above m-above t-above most =
+-- a part holds c / m litre of methane, which is at most 1/u
+pub close-interval : (u m s t c : ℕ) → 0 < m → 0 < t → c * u ≤ m → Close u (over s t *ᶠ over c m) (s / t * c / m) 1
+close-interval u m s t c m-above t-above most =
     record {
       top = s * c;
       is-top = refl;
       above-zero = mul-pos t-above m-above;
-      low =
-          part-low g m s t c (g * s / t) (g * s / t * c / (m * g)) g-above (mul-div-le (g * s) t) (mul-div-le (g * s / t * c) (m * g));
+      low = part-low m s t c (s / t) (s / t * c / m) (mul-div-le s t) (mul-div-le (s / t * c) m);
       high =
-          part-high u g m s t c (g * s / t) (g * s / t * c / (m * g)) g-above most (lt-mul-div-succ (g * s) t-above)
-          (lt-mul-div-succ (g * s / t * c) (mul-pos m-above g-above));
+          part-high u m s t c (s / t) (s / t * c / m) most (lt-mul-div-succ s t-above) (lt-mul-div-succ (s / t * c) m-above);
     }

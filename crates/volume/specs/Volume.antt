@@ -5,18 +5,48 @@ use mathlib.Core.Path.{_≡_, refl}
 use lib.IntN.{ℤ, pos, negsuc}
 use Rattle.protocol.specs.Numbers.{protocol}
 use Rattle.protocol.specs.Ranges.{kelvinOf, flowMost}
+use Rattle.protocol.specs.Rounding.{ceilDiv}
 
--- rule 9.1: the litres of a flow in 0.1 m3 at standard conditions, rounded down (equation 2)
-unfoldable pub litresOf : ℕ → ℤ → ℕ → ℕ
-litresOf flow temp press = flow * 100 * protocol .kelvin * press / (kelvinOf temp * protocol .pascal)
+-- ---- rule 9.1: one correction to standard conditions (equation 2), in parts of which a unit of flow has `factor`
 
--- rule 9.2: the methane in so many litres, rounded down
-unfoldable pub methaneOf : ℕ → ℕ → ℕ
-methaneOf litres content = litres * content / 10000
+-- its two sides
+abbrev pub correctionOver : ℕ → ℕ → ℕ → ℕ
+correctionOver factor flow press = flow * factor * protocol .kelvin * press
+
+abbrev pub correctionUnder : ℤ → ℕ
+correctionUnder temp = kelvinOf temp * protocol .pascal
+
+-- whole parts, rounded down
+unfoldable pub correctionDown : ℕ → ℕ → ℤ → ℕ → ℕ
+correctionDown factor flow temp press = correctionOver factor flow press / correctionUnder temp
+
+-- whole parts, rounded up
+unfoldable pub correctionUp : ℕ → ℕ → ℤ → ℕ → ℕ
+correctionUp factor flow temp press = ceilDiv (correctionOver factor flow press) (correctionUnder temp)
+
+-- 0.1 m3, the unit of a flow, is 10,000 hundredths of a litre
+abbrev pub hundredthsFactor : ℕ
+hundredthsFactor = 10000
+
+-- rule 9.1: the hundredths of a litre of a flow in 0.1 m3, rounded down
+unfoldable pub hundredthsOf : ℕ → ℤ → ℕ → ℕ
+hundredthsOf flow temp press = correctionDown hundredthsFactor flow temp press
+
+-- ---- rule 9.2
+
+-- a litre of methane: 100 hundredths of a litre at a content of 100 %, which is 10,000 (rule 3.3)
+abbrev pub methaneUnder : ℕ
+methaneUnder = 1000000
+
+-- the methane in so many hundredths of a litre, in whole litres, rounded down
+unfoldable pub methaneLitresIn : ℕ → ℕ → ℕ
+methaneLitresIn hundredths content = hundredths * content / methaneUnder
 
 -- rule 9.2 after rule 9.1: the methane litres of an interval, rounded down twice. The crates above cite this one.
 unfoldable pub methaneLitres : ℕ → ℕ → ℤ → ℕ → ℕ
-methaneLitres flow content temp press = methaneOf (litresOf flow temp press) content
+methaneLitres flow content temp press = methaneLitresIn (hundredthsOf flow temp press) content
+
+-- ---- limits
 
 -- the readings for which the numbers fit 64 bits: those inside the ranges of rule 3.3
 pub record Inside (flow : ℕ) (temp : ℤ) (press : ℕ) : Type 0 where
@@ -25,33 +55,53 @@ pub record Inside (flow : ℕ) (temp : ℤ) (press : ℕ) : Type 0 where
   pub kelvin-most : kelvinOf temp ≤ 37315
   pub press-most : press ≤ 300000
 
--- rule 9.14: the most litres that an interval can have, 3,000 m3 at -40.00 °C and 300,000 Pa
+-- rule 9.14: the most that an interval can have, 3,000 m3 at -40.00 °C and 300,000 Pa, in hundredths of a litre
+abbrev pub hundredthsMost : ℕ
+hundredthsMost = 1116812781
+
+-- and in whole litres, of methane too
 abbrev pub litresMost : ℕ
 litresMost = 11168127
 
+-- ---- numbers
+
 -- rule 15.1: 100 m3 at the reference conditions and at 0.00 °C; the least of any flow above 0; by rule 9.14, the most
-at-reference : litresOf 1000 (pos 2000) 101325 ≡ 100000
-unfolding litresOf
+at-reference : hundredthsOf 1000 (pos 2000) 101325 ≡ 10000000
+unfolding hundredthsOf correctionDown
 at-reference = refl
 
-at-freezing : litresOf 1000 (pos 0) 101325 ≡ 107321
-unfolding litresOf
+at-freezing : hundredthsOf 1000 (pos 0) 101325 ≡ 10732198
+unfolding hundredthsOf correctionDown
 at-freezing = refl
 
-at-least : litresOf 1 (pos 10000) 50000 ≡ 38
-unfolding litresOf
+at-least : hundredthsOf 1 (pos 10000) 50000 ≡ 3876
+unfolding hundredthsOf correctionDown
 at-least = refl
 
-at-most : litresOf 30000 (negsuc 3999) 300000 ≡ litresMost
-unfolding litresOf
+at-most : hundredthsOf 30000 (negsuc 3999) 300000 ≡ hundredthsMost
+unfolding hundredthsOf correctionDown
 at-most = refl
 
--- rule 9.15: a quotient just below a whole number, the remainder being one short of the divisor
-one-short : litresOf 29633 (negsuc 3997) 298817 ≡ 10987060
-unfolding litresOf
+-- rule 9.15: a quotient just below a whole litre, the remainder being one short of the divisor
+one-short : hundredthsOf 29633 (negsuc 3997) 298817 ≡ 1098706099
+unfolding hundredthsOf correctionDown
 one-short = refl
 
+-- rounded up: one more at 0.00 °C, none at the reference conditions, which divide without a rest
+up-at-freezing : correctionUp hundredthsFactor 1000 (pos 0) 101325 ≡ 10732199
+unfolding correctionUp
+up-at-freezing = refl
+
+up-at-reference : correctionUp hundredthsFactor 1000 (pos 2000) 101325 ≡ 10000000
+unfolding correctionUp
+up-at-reference = refl
+
 -- rule 15.1: 1.4997 l is 1 l
-little : methaneOf 3 4999 ≡ 1
-unfolding methaneOf
+little : methaneLitresIn 300 4999 ≡ 1
+unfolding methaneLitresIn
 little = refl
+
+-- 38.76 l of gas at 99 %: 38.37 l, where whole litres of gas first would give 37
+an-interval : methaneLitres 1 9900 (pos 10000) 50000 ≡ 38
+unfolding methaneLitres methaneLitresIn hundredthsOf correctionDown
+an-interval = refl
