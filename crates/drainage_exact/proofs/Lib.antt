@@ -1,2 +1,3 @@
 pub mod Device
 pub mod Demand3
+pub mod Earlier
