@@ -55,7 +55,7 @@
 
 /* The version of this header: the number of the latest note in docs/landings. cmm_version() gives the library's own, and a host that
  * finds the two different must not call it: arrays may have other lengths. README.md lists the versions that changed figures. */
-#define CMM_VERSION 6
+#define CMM_VERSION 7
 
 #ifdef __cplusplus
 extern "C" {

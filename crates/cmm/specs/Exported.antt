@@ -30,7 +30,7 @@ use Rattle.cmm.specs.Figures.{amountsOf, balancesOf}
 
 -- The number that header, library and command share: that of the latest note in docs/landings.
 abbrev pub version : ℕ
-version = 6
+version = 7
 
 -- the host's two arrays of figures
 pub record Arrays : Type 0 where
