@@ -1,12 +1,12 @@
 //! The exact reduction, with no rounding anywhere, and demand 3 over it: the tonnes never exceed it, and they fall
-//! short of it by less than a tonne, 25 g for each counted device-interval and 13 g for each device.
+//! short of it by less than a tonne, 13 g for each counted device-interval and 13 g for each device.
 
 use crate::call::Call;
 use crate::natural::Fraction;
 use crate::protocol::{thousandths, BASELINE_MG, CO2_MG_TIMES_4, MG_PER_TONNE};
 use std::collections::BTreeMap;
 
-const MG_PER_INTERVAL: i128 = 25_000;
+const MG_PER_INTERVAL: i128 = 13_000;
 const MG_PER_DEVICE: i128 = 13_000;
 
 /// What a call has given: its three rows, and the tonnes.

@@ -7,7 +7,7 @@ use crate::record::Device;
 use crate::refusal::Refusal;
 use crate::refusals::refusal;
 use crate::sheet::Figures;
-use crate::tonnes::{balance, credits, litres, methane_litres, tonnes, Balance};
+use crate::tonnes::{balance, credits, hundredths, methane_litres, tonnes, Balance};
 
 pub struct Quantified {
     pub figures: Figures,
@@ -70,7 +70,7 @@ fn device_methane(device: &Device, row: &DeviceRows) -> i128 {
     let mut sum = 0;
     for i in 0..row.outcome.len() {
         if let (0..=2, Some(temp), Some(press)) = (row.outcome[i], device.temp[i], device.press[i]) {
-            sum += methane_litres(litres(row.flow[i], temp, press), row.ch4[i]);
+            sum += methane_litres(hundredths(row.flow[i], temp, press), row.ch4[i]);
         }
     }
     sum

@@ -9,7 +9,7 @@ use crate::plain_files::longest_record;
 use crate::quantify::quantify;
 use crate::record::{Check, Device, Fuel, Record};
 use crate::rng::Rng;
-use crate::tonnes::{balance, credits, litres, methane_litres, tonnes};
+use crate::tonnes::{balance, credits, hundredths, methane_litres, tonnes};
 use crate::{compare, draw, sheet};
 use crate::{selfcheck_calls, selfcheck_correction, selfcheck_flow, selfcheck_historian};
 use crate::{selfcheck_limits, selfcheck_readings, selfcheck_texts, selfcheck_words};
@@ -56,11 +56,12 @@ pub fn run() -> bool {
 }
 
 fn volumes(checks: &mut Checks) {
-    checks.same("flow 1000 at 20 C", litres(1_000, 2_000, 101_325), 100_000);
-    checks.same("flow 1000 at 0 C", litres(1_000, 0, 101_325), 107_321);
-    checks.same("flow 1 at 100 C", litres(1, 10_000, 50_000), 38);
-    checks.same("3 l at 4,999", methane_litres(3, 4_999), 1);
-    checks.same("largest litres", litres(30_000, -4_000, 300_000), 11_168_127);
+    checks.same("flow 1000 at 20 C", hundredths(1_000, 2_000, 101_325), 10_000_000);
+    checks.same("flow 1000 at 0 C", hundredths(1_000, 0, 101_325), 10_732_198);
+    checks.same("flow 1 at 100 C", hundredths(1, 10_000, 50_000), 3_876);
+    checks.same("300 hundredths at 4,999", methane_litres(300, 4_999), 1);
+    let most = hundredths(30_000, -4_000, 300_000);
+    checks.same("the most, and as methane", (most, methane_litres(most, 10_000)), (1_116_812_781, 11_168_127));
 }
 
 fn drifts(checks: &mut Checks) {

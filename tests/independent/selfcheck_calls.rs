@@ -189,13 +189,13 @@ fn fairness(checks: &mut Checks) {
         (35_635_658_750, 34, false),
         (35_000_000_000, 35, true),
         (34_999_999_999, 35, false),
-        (36_000_037_999, 35, true),
-        (36_000_038_000, 35, false),
+        (36_000_025_999, 35, true),
+        (36_000_026_000, 35, false),
         (-1, 0, false),
         (-1, -1, true),
         (0, 0, true),
-        (-999_962_001, -2, true),
-        (-999_962_000, -2, false),
+        (-999_974_001, -2, true),
+        (-999_974_000, -2, false),
     ] {
         checks.same(&format!("{tonnes} t of {reduction} mg"), verdict(reduction, tonnes), wanted);
     }

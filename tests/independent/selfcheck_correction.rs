@@ -1,5 +1,5 @@
-//! The part of the self-check about the flow correction: document 02's pair 117,260 / 4,053 against document 01's
-//! equation, in whole numbers and as a spreadsheet works it; readings on both sides of a whole litre; and that every
+//! The part of the self-check about the flow correction: in two steps by document 02's pair 117,260 / 4,053 against the
+//! definition, in whole numbers and as a spreadsheet works it; readings on both sides of a whole litre; and that every
 //! side has its turn.
 
 use crate::call::Call;
@@ -7,7 +7,7 @@ use crate::litre_kinds::{of_sheet, wanted};
 use crate::quantify::quantify;
 use crate::rng::Rng;
 use crate::selfcheck::Checks;
-use crate::tonnes::{litres, methane_litres};
+use crate::tonnes::{hundredths, methane_litres};
 use crate::whole_litres::Side::{Above, Below, On};
 use crate::whole_litres::{large_reading, pressure, reading, whole_litres};
 use crate::whole_litres::{Reading, LARGE, NEAREST, PAIR, PRESSURES, SIDES};
@@ -30,16 +30,16 @@ pub fn run(checks: &mut Checks) {
 /// Up to here every whole number is a binary64.
 const EXACT: u64 = 1 << 53;
 
-/// Numbers below this have at most 15 digits.
-const FIFTEEN_DIGITS: u64 = 1_000_000_000_000_000;
+/// Numbers below this have at most 14 digits.
+const FOURTEEN_DIGITS: u64 = 100_000_000_000_000;
 
 /// The pair is document 01's fraction, cut down by 25, and so are the largest numbers.
 fn pair(checks: &mut Checks) {
     checks.same("25 times the pair", (25 * PAIR.0, 25 * PAIR.1), (100 * 29_315, 101_325));
     let largest = 30_000 * PAIR.0 * 300_000;
     checks.same("the largest product", (largest, largest < EXACT), (1_055_340_000_000_000, true));
-    let earlier = 30_000 * 100 * 29_315 * 300_000;
-    checks.same("document 01's largest product", (earlier, earlier < EXACT), (26_383_500_000_000_000, false));
+    let in_one = 100 * largest;
+    checks.same("the largest in one step", (in_one, in_one < EXACT), (105_534_000_000_000_000, false));
 }
 
 /// Every end of a range with every other, and what lies beside them.
@@ -76,15 +76,16 @@ fn beside_litres(checks: &mut Checks, rng: &Rng, count: usize) -> Vec<Reading> {
     readings
 }
 
-/// The litres of the pair, in whole numbers, and the largest number met: the next multiple of the divisor shows that
-/// no greater quotient would do.
-fn by_pair(one: Reading) -> (u64, u64) {
-    let product = one.flow as u64 * PAIR.0;
-    let above = product * one.press as u64;
-    let below = (one.temp as i64 + 27_315) as u64 * PAIR.1;
-    let quotient = above / below;
-    let largest = [product, above, below, quotient, (quotient + 1) * below].into_iter().max();
-    (quotient, largest.unwrap())
+/// The hundredths in two steps, in whole numbers, and the largest number met: whole litres by the pair with a remainder,
+/// then a hundred times the remainder. The next multiple of the divisor shows that no greater quotient would do.
+fn two_steps(one: Reading) -> (u64, u64) {
+    let product = one.flow as u64 * PAIR.0 * one.press as u64;
+    let divisor = (one.temp as i64 + 27_315) as u64 * PAIR.1;
+    let (litres, remainder) = (product / divisor, product % divisor);
+    let further = 100 * remainder / divisor;
+    let next = [(litres + 1) * divisor, (further + 1) * divisor, 100 * (litres + 1)];
+    let largest = [product, divisor, 100 * remainder].into_iter().chain(next).max();
+    (100 * litres + further, largest.unwrap())
 }
 
 /// A spreadsheet's single quotient; INT is rounding down, with or without something before it.
@@ -93,29 +94,36 @@ fn single_quotient(one: Reading, int: fn(f64) -> f64) -> u64 {
     int(above / ((one.temp as f64 + 27_315.0) * 4_053.0)) as u64
 }
 
-/// A spreadsheet's cells E to J, in whole numbers, and the largest number in them and between them.
-fn long_division(one: Reading, ch4: u16) -> ([u64; 6], u64) {
+/// A spreadsheet's cells E to M, in whole numbers, and the largest number in them and between them. K has whole litres,
+/// L hundredths, M litres of methane.
+fn long_division(one: Reading, ch4: u16) -> ([u64; 9], u64) {
     let (press, ch4) = (one.press as u64, ch4 as u64);
     let e = one.flow as u64 * 117_260;
     let f = (one.temp as i64 + 27_315) as u64 * 4_053;
     let g = e / f;
     let h = e - g * f;
-    let i = g * press + h * press / f;
-    let j = i * ch4 / 10_000;
-    let largest = [e, f, g * f, h * press, g * press, i, i * ch4].into_iter().max();
-    ([e, f, g, h, i, j], largest.unwrap())
+    let i = h * press / f;
+    let j = h * press - i * f;
+    let k = g * press + i;
+    let l = k * 100 + j * 100 / f;
+    let m = l * ch4 / 1_000_000;
+    let largest = [e, f, g * f, h * press, i * f, g * press, k * 100, j * 100, l, l * ch4].into_iter().max();
+    ([e, f, g, h, i, j, k, l, m], largest.unwrap())
 }
 
 /// The same cells as a spreadsheet has them, in binary64.
-fn spreadsheet(one: Reading, ch4: u16, int: fn(f64) -> f64) -> [u64; 6] {
+fn spreadsheet(one: Reading, ch4: u16, int: fn(f64) -> f64) -> [u64; 9] {
     let (press, ch4) = (one.press as f64, ch4 as f64);
     let e = one.flow as f64 * 117_260.0;
     let f = (one.temp as f64 + 27_315.0) * 4_053.0;
     let g = int(e / f);
     let h = e - g * f;
-    let i = g * press + int(h * press / f);
-    let j = int(i * ch4 / 10_000.0);
-    [e, f, g, h, i, j].map(|cell| cell as u64)
+    let i = int(h * press / f);
+    let j = h * press - i * f;
+    let k = g * press + i;
+    let l = k * 100.0 + int(j * 100.0 / f);
+    let m = int(l * ch4 / 1_000_000.0);
+    [e, f, g, h, i, j, k, l, m].map(|cell| cell as u64)
 }
 
 /// INT of spreadsheet programs that round to 15 digits first.
@@ -123,17 +131,17 @@ fn int_of_15_digits(number: f64) -> f64 {
     format!("{number:.14e}").parse::<f64>().unwrap().floor()
 }
 
-/// Document 01's equation, the pair and the spreadsheet's cells give the same litres, all by small numbers.
+/// The definition, the two steps and the spreadsheet's cells give the same hundredths and methane, all by small numbers.
 fn all_ways(checks: &mut Checks, one: Reading, ch4: u16) {
     let name = format!("{one:?}, CH4 {ch4}");
-    let right = litres(one.flow, one.temp, one.press);
-    let (quotient, largest) = by_pair(one);
+    let right = hundredths(one.flow, one.temp, one.press);
+    let (stepwise, largest) = two_steps(one);
     let (cells, largest_cell) = long_division(one, ch4);
-    let ways = [quotient, one.quotient(), single_quotient(one, f64::floor), cells[4]].map(i128::from);
-    checks.same(&name, ways, [right; 4]);
-    checks.same(&name, cells[5] as i128, methane_litres(right, ch4));
+    checks.same(&name, [stepwise, cells[7]].map(i128::from), [right; 2]);
+    checks.same(&name, [one.quotient(), single_quotient(one, f64::floor)], [cells[6]; 2]);
+    checks.same(&name, cells[8] as i128, methane_litres(right, ch4));
     checks.same(&name, [f64::floor, int_of_15_digits].map(|int| spreadsheet(one, ch4, int)), [cells; 2]);
-    checks.same(&name, (largest < EXACT, largest_cell < FIFTEEN_DIGITS), (true, true));
+    checks.same(&name, (largest < EXACT, largest_cell < FOURTEEN_DIGITS), (true, true));
 }
 
 /// A reading one part short of a whole litre: a single quotient of 15 digits does not show that it is short.

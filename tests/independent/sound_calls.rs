@@ -6,7 +6,7 @@ use crate::plain_files::to_tonne_border;
 use crate::protocol::{MOST_CHECKS, MOST_DEVICES, MOST_INTERVALS};
 use crate::record::{Check, Device, Fuel, Record};
 use crate::rng::Rng;
-use crate::tonnes::{litres, methane_litres};
+use crate::tonnes::{hundredths, methane_litres};
 
 /// Both sides of every border of the table of gaps.
 const GAPS: [usize; 7] = [1, 23, 24, 95, 96, 672, 673];
@@ -92,7 +92,7 @@ fn lossy(rng: &Rng) -> (u16, u16, i16, u32) {
     let lost = |&(flow, ch4, temp, press): &(u16, u16, i16, u32)| {
         let exact = flow as f64 * 100.0 * 29_315.0 * press as f64 / ((temp as f64 + 27_315.0) * 101_325.0) * ch4 as f64
             / 10_000.0;
-        exact - methane_litres(litres(flow, temp, press), ch4) as f64
+        exact - methane_litres(hundredths(flow, temp, press), ch4) as f64
     };
     let drawn: Vec<_> = (0..60).map(|_| draw()).collect();
     drawn.into_iter().max_by(|a, b| lost(a).total_cmp(&lost(b))).unwrap()

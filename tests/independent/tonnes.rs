@@ -2,14 +2,15 @@
 
 use crate::protocol::{thousandths, BASELINE_MG, CO2_MG_TIMES_4, MG_PER_TONNE};
 
-/// Litres at standard conditions, rounded down (equation 2).
-pub fn litres(flow: u16, temp: i16, press: u32) -> i128 {
-    let above = flow as i128 * 100 * 29_315 * press as i128;
+/// The corrected volume of an interval in hundredths of a litre at standard conditions, rounded down (equation 2).
+pub fn hundredths(flow: u16, temp: i16, press: u32) -> i128 {
+    let above = flow as i128 * 10_000 * 29_315 * press as i128;
     above / ((temp as i128 + 27_315) * 101_325)
 }
 
-pub fn methane_litres(litres: i128, ch4: u16) -> i128 {
-    litres * ch4 as i128 / 10_000
+/// The methane of an interval in whole litres, rounded down, from its hundredths.
+pub fn methane_litres(hundredths: i128, ch4: u16) -> i128 {
+    hundredths * ch4 as i128 / 1_000_000
 }
 
 pub fn rounded_up(above: i128, below: i128) -> i128 {
