@@ -5,7 +5,7 @@ use crate::generate::{class, turn, Class};
 use crate::protocol::MOST_CHECKS;
 use crate::record::Record;
 use crate::rng::Rng;
-use crate::{gap_files, plain_files, sound_calls, whole_litres, wrong_calls};
+use crate::{gap_files, litre_borders, lost_litres, plain_files, sound_calls, wrong_calls};
 
 /// Takes the random source, the call's number in its class, and how many entries a record may have.
 #[derive(Clone, Copy)]
@@ -36,8 +36,8 @@ const CLASSES: [Class<Maker>; 29] = [
     class("row borders", 12, Sound(sound_calls::row_borders)),
     class("many checks", 5, Sound(sound_calls::many_checks)),
     class("volumes", 6, Sound(sound_calls::volumes)),
-    class("lost by rounding", 6, Sound(sound_calls::lost_by_rounding)),
-    class("whole litres", 6, Sound(whole_litres::whole_litres)),
+    class("lost by rounding", 6, Sound(lost_litres::lost_by_rounding)),
+    class("litre borders", 6, Sound(litre_borders::litre_borders)),
     class("most and least", 2, Sound(sound_calls::most_and_least)),
     class("years", 1, Sound(sound_calls::years)),
     class("sizes", 14, Wrong(wrong_calls::sizes)),

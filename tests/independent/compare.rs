@@ -73,7 +73,7 @@ pub fn record_kinds_wanted(row: u64) -> Vec<String> {
     [kinds, reading_kinds::wanted()].concat()
 }
 
-/// These refusals, every outcome, a negative reduction, and both sides of a whole litre.
+/// These refusals, every outcome, a negative reduction, and what is wanted of litres.
 pub fn kinds_wanted(refusals: impl Iterator<Item = u32>) -> Vec<String> {
     let outcomes = (0..10).map(|outcome| format!("sheet, outcome {outcome}"));
     let negative = "sheet, negative".to_string();

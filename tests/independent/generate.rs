@@ -2,7 +2,7 @@
 
 use crate::record::Record;
 use crate::rng::Rng;
-use crate::{damaged_files, gap_files, plain_files, refusal_files, whole_litres};
+use crate::{damaged_files, gap_files, litre_borders, lost_litres, plain_files, refusal_files};
 
 /// A class of things to generate, and how many of it come in turn.
 pub struct Class<M> {
@@ -38,7 +38,7 @@ enum Maker {
 use Maker::{Bytes, Sound};
 
 /// Most files are short, and so is the whole.
-const CLASSES: [Class<Maker>; 21] = [
+const CLASSES: [Class<Maker>; 22] = [
     class("small", 14, Sound(plain_files::small)),
     class("outcomes", 8, Sound(plain_files::outcomes)),
     class("month", 1, Sound(plain_files::month)),
@@ -46,7 +46,8 @@ const CLASSES: [Class<Maker>; 21] = [
     class("longest", 1, Bytes(plain_files::longest)),
     class("extremes", 7, Sound(plain_files::extremes)),
     class("tonne borders", 5, Sound(plain_files::tonne_borders)),
-    class("whole litres", 5, Sound(whole_litres::whole_litres)),
+    class("litre borders", 6, Sound(litre_borders::litre_borders)),
+    class("lost by rounding", 2, Sound(lost_litres::lost_by_rounding)),
     class("gap borders", 18, Sound(gap_files::borders)),
     class("gap neighbours", 8, Sound(gap_files::neighbours)),
     class("window values", 10, Sound(gap_files::window_values)),

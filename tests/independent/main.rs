@@ -33,7 +33,11 @@ mod library_texts;
 mod limit_kinds;
 mod limit_rows;
 mod limit_ways;
+mod litre_borders;
 mod litre_kinds;
+mod litre_reading;
+mod litre_ways;
+mod lost_litres;
 mod natural;
 mod nine_digits;
 mod outcomes;
@@ -58,16 +62,17 @@ mod selfcheck_correction;
 mod selfcheck_flow;
 mod selfcheck_historian;
 mod selfcheck_limits;
+mod selfcheck_litres;
 mod selfcheck_readings;
 mod selfcheck_texts;
 mod selfcheck_words;
 mod sheet;
 mod sound_calls;
 mod tonnes;
-mod whole_litres;
 mod word_files;
 mod words;
 mod wrong_calls;
+mod wrong_litres;
 mod wrong_readings;
 
 use answerer::{Answerer, Program};
@@ -98,6 +103,7 @@ const USAGE: &str = "usage:
   independent pattern-sums FIRST COUNT           checksums of all good samples, in blocks of 2^20, 0 to 4095
   independent show-call SEED NUMBER              the call with this number, and the own answer to it
   independent limit-ways SEED WINDOWS            the own ways of a lower limit held to each other
+  independent litre-ways SEED READINGS           the own ways of an interval's litres held to each other
   independent selfcheck                          the own implementation held to document 01's numbers";
 
 fn main() -> ExitCode {
@@ -139,6 +145,7 @@ fn run(words: &[&str]) -> Option<bool> {
         ["pattern-sums", first, count] => pattern_sums(first.parse().ok()?, count.parse().ok()?),
         ["show-call", seed, number] => Some(show_call(seed.parse().ok()?, number.parse().ok()?)),
         ["limit-ways", seed, windows] => limit_ways(seed.parse().ok()?, windows.parse().ok()?),
+        ["litre-ways", seed, readings] => Some(litre_ways::run(seed.parse().ok()?, readings.parse().ok()?)),
         ["selfcheck"] => Some(selfcheck::run()),
         _ => None,
     }

@@ -12,7 +12,7 @@ use crate::rng::Rng;
 use crate::tonnes::{balance, credits, hundredths, methane_litres, tonnes};
 use crate::{compare, draw, sheet};
 use crate::{selfcheck_calls, selfcheck_correction, selfcheck_flow, selfcheck_historian};
-use crate::{selfcheck_limits, selfcheck_readings, selfcheck_texts, selfcheck_words};
+use crate::{selfcheck_limits, selfcheck_litres, selfcheck_readings, selfcheck_texts, selfcheck_words};
 use std::fmt::Debug;
 
 #[derive(Default)]
@@ -46,6 +46,7 @@ pub fn run() -> bool {
     selfcheck_limits::run(&mut checks);
     selfcheck_calls::run(&mut checks);
     selfcheck_correction::run(&mut checks);
+    selfcheck_litres::run(&mut checks);
     selfcheck_readings::run(&mut checks);
     selfcheck_words::run(&mut checks);
     selfcheck_historian::run(&mut checks);

@@ -1,30 +1,30 @@
 //! The part of the self-check about the flow correction: in two steps by document 02's pair 117,260 / 4,053 against the
-//! definition, in whole numbers and as a spreadsheet works it; readings on both sides of a whole litre; and that every
-//! side has its turn.
+//! definition, in whole numbers and as a spreadsheet works it; and readings on both sides of a whole unit.
 
-use crate::call::Call;
-use crate::litre_kinds::{of_sheet, wanted};
-use crate::quantify::quantify;
+use crate::litre_borders::Side::{Above, Below, On};
+use crate::litre_borders::{first, large_reading, pressure, reading, BORDERS, LARGE, NEAREST};
+use crate::litre_reading::{Reading, HUNDREDTHS, LITRES, PAIR, PRESSURES};
+use crate::litre_ways::{by_definition, in_two_steps};
+use crate::lost_litres::lost;
 use crate::rng::Rng;
 use crate::selfcheck::Checks;
-use crate::tonnes::{hundredths, methane_litres};
-use crate::whole_litres::Side::{Above, Below, On};
-use crate::whole_litres::{large_reading, pressure, reading, whole_litres};
-use crate::whole_litres::{Reading, LARGE, NEAREST, PAIR, PRESSURES, SIDES};
+use crate::wrong_litres::in_binary64;
 use std::collections::BTreeSet;
 
 pub fn run(checks: &mut Checks) {
     pair(checks);
     let rng = Rng::new(3, 0);
-    for one in [corners(), drawn(&rng, 200_000), beside_litres(checks, &rng, 1_000)].concat() {
-        all_ways(checks, one, rng.size(0, 10_000) as u16);
+    for one in [corners(), drawn(&rng, 100_000), beside(checks, &rng, 1_000)].concat() {
+        all_ways(checks, Reading { ch4: rng.size(0, 10_000) as u16, ..one });
+    }
+    for turn in 0..2_600 {
+        all_ways(checks, first(&rng, turn % BORDERS));
+        all_ways(checks, lost(&rng));
     }
     one_too_high(checks);
     more_too_high(checks, &rng, 500);
+    hundredths_too_high(checks, &rng, 500);
     nearest(checks, &rng);
-    for seed in 0..50 {
-        in_turn(checks, seed);
-    }
 }
 
 /// Up to here every whole number is a binary64.
@@ -33,7 +33,7 @@ const EXACT: u64 = 1 << 53;
 /// Numbers below this have at most 14 digits.
 const FOURTEEN_DIGITS: u64 = 100_000_000_000_000;
 
-/// The pair is document 01's fraction, cut down by 25, and so are the largest numbers.
+/// The pair is document 01's fraction, cut down by 25. In two steps the largest product is a hundredth of one step's.
 fn pair(checks: &mut Checks) {
     checks.same("25 times the pair", (25 * PAIR.0, 25 * PAIR.1), (100 * 29_315, 101_325));
     let largest = 30_000 * PAIR.0 * 300_000;
@@ -48,7 +48,7 @@ fn corners() -> Vec<Reading> {
     for flow in [0, 1, 2, 29_999, 30_000] {
         for temp in [-4_000, -3_999, -1, 0, 1, 2_000, 9_999, 10_000] {
             for press in [50_000, 50_001, 101_324, 101_325, 101_326, 299_999, 300_000] {
-                readings.push(Reading { flow, temp, press });
+                readings.push(Reading { flow, ch4: 10_000, temp, press });
             }
         }
     }
@@ -58,34 +58,23 @@ fn corners() -> Vec<Reading> {
 fn drawn(rng: &Rng, count: usize) -> Vec<Reading> {
     let draw = |_| Reading {
         flow: rng.size(0, 30_000) as u16,
+        ch4: 10_000,
         temp: rng.between(-4_000, 10_000) as i16,
         press: rng.size(50_000, 300_000) as u32,
     };
     (0..count).map(draw).collect()
 }
 
-/// So many on a whole litre, and on each side of one a few parts from it and as near as any flow can be.
-fn beside_litres(checks: &mut Checks, rng: &Rng, count: usize) -> Vec<Reading> {
+/// So many on a whole unit, and on each side of one a few parts from it and as near as any flow can be.
+fn beside(checks: &mut Checks, rng: &Rng, count: usize) -> Vec<Reading> {
     let mut readings = vec![];
-    for _ in 0..count {
-        let [on, above, below] = [On, Above(9), Below(9)].map(|side| reading(rng, side));
-        let few = (1..=9).contains(&above.remainder()) && (1..=9).contains(&below.lacking());
-        checks.same("sides of a litre", (on.remainder(), few), (0, true));
-        readings.extend([on, above, below, reading(rng, Above(NEAREST)), reading(rng, Below(NEAREST))]);
+    for unit in (0..count).flat_map(|_| [LITRES, HUNDREDTHS]) {
+        let [on, above, below] = [On, Above(9), Below(9)].map(|side| reading(rng, unit, side));
+        let few = (1..=9).contains(&above.remainder(unit)) && (1..=9).contains(&below.lacking(unit));
+        checks.same("sides of a unit", (on.remainder(unit), few), (0, true));
+        readings.extend([on, above, below, reading(rng, unit, Above(NEAREST)), reading(rng, unit, Below(NEAREST))]);
     }
     readings
-}
-
-/// The hundredths in two steps, in whole numbers, and the largest number met: whole litres by the pair with a remainder,
-/// then a hundred times the remainder. The next multiple of the divisor shows that no greater quotient would do.
-fn two_steps(one: Reading) -> (u64, u64) {
-    let product = one.flow as u64 * PAIR.0 * one.press as u64;
-    let divisor = (one.temp as i64 + 27_315) as u64 * PAIR.1;
-    let (litres, remainder) = (product / divisor, product % divisor);
-    let further = 100 * remainder / divisor;
-    let next = [(litres + 1) * divisor, (further + 1) * divisor, 100 * (litres + 1)];
-    let largest = [product, divisor, 100 * remainder].into_iter().chain(next).max();
-    (100 * litres + further, largest.unwrap())
 }
 
 /// A spreadsheet's single quotient; INT is rounding down, with or without something before it.
@@ -96,8 +85,8 @@ fn single_quotient(one: Reading, int: fn(f64) -> f64) -> u64 {
 
 /// A spreadsheet's cells E to M, in whole numbers, and the largest number in them and between them. K has whole litres,
 /// L hundredths, M litres of methane.
-fn long_division(one: Reading, ch4: u16) -> ([u64; 9], u64) {
-    let (press, ch4) = (one.press as u64, ch4 as u64);
+fn long_division(one: Reading) -> ([u64; 9], u64) {
+    let (press, ch4) = (one.press as u64, one.ch4 as u64);
     let e = one.flow as u64 * 117_260;
     let f = (one.temp as i64 + 27_315) as u64 * 4_053;
     let g = e / f;
@@ -112,8 +101,8 @@ fn long_division(one: Reading, ch4: u16) -> ([u64; 9], u64) {
 }
 
 /// The same cells as a spreadsheet has them, in binary64.
-fn spreadsheet(one: Reading, ch4: u16, int: fn(f64) -> f64) -> [u64; 9] {
-    let (press, ch4) = (one.press as f64, ch4 as f64);
+fn spreadsheet(one: Reading, int: fn(f64) -> f64) -> [u64; 9] {
+    let (press, ch4) = (one.press as f64, one.ch4 as f64);
     let e = one.flow as f64 * 117_260.0;
     let f = (one.temp as f64 + 27_315.0) * 4_053.0;
     let g = int(e / f);
@@ -131,26 +120,24 @@ fn int_of_15_digits(number: f64) -> f64 {
     format!("{number:.14e}").parse::<f64>().unwrap().floor()
 }
 
-/// The definition, the two steps and the spreadsheet's cells give the same hundredths and methane, all by small numbers.
-fn all_ways(checks: &mut Checks, one: Reading, ch4: u16) {
-    let name = format!("{one:?}, CH4 {ch4}");
-    let right = hundredths(one.flow, one.temp, one.press);
-    let (stepwise, largest) = two_steps(one);
-    let (cells, largest_cell) = long_division(one, ch4);
-    checks.same(&name, [stepwise, cells[7]].map(i128::from), [right; 2]);
-    checks.same(&name, [one.quotient(), single_quotient(one, f64::floor)], [cells[6]; 2]);
-    checks.same(&name, cells[8] as i128, methane_litres(right, ch4));
-    checks.same(&name, [f64::floor, int_of_15_digits].map(|int| spreadsheet(one, ch4, int)), [cells; 2]);
+/// The definition, the two steps and the spreadsheet's cells give the same hundredths and methane, by small numbers.
+fn all_ways(checks: &mut Checks, one: Reading) {
+    let name = format!("{one:?}");
+    let (stepwise, largest) = in_two_steps(one);
+    let (cells, largest_cell) = long_division(one);
+    checks.same(&name, [stepwise, (cells[7], cells[8])], [by_definition(one); 2]);
+    checks.same(&name, [one.volume(LITRES), single_quotient(one, f64::floor)], [cells[6]; 2]);
+    checks.same(&name, [f64::floor, int_of_15_digits].map(|int| spreadsheet(one, int)), [cells; 2]);
     checks.same(&name, (largest < EXACT, largest_cell < FOURTEEN_DIGITS), (true, true));
 }
 
 /// A reading one part short of a whole litre: a single quotient of 15 digits does not show that it is short.
 fn one_too_high(checks: &mut Checks) {
-    let one = Reading { flow: 29_633, temp: -3_998, press: 298_817 };
-    let worked = (one.quotient(), one.remainder(), one.divisor());
+    let one = Reading { flow: 29_633, ch4: 10_000, temp: -3_998, press: 298_817 };
+    let worked = (one.volume(LITRES), one.remainder(LITRES), one.divisor());
     checks.same("one part short", worked, (10_987_060, 94_503_800, 94_503_801));
     checks.same("one part short, 15 digits", single_quotient(one, int_of_15_digits), 10_987_061);
-    all_ways(checks, one, 10_000);
+    all_ways(checks, one);
 }
 
 fn rounded(above: u128, below: u128) -> u128 {
@@ -169,40 +156,37 @@ fn single_quotient_of_15_digits(one: Reading) -> u64 {
 fn more_too_high(checks: &mut Checks, rng: &Rng, count: usize) {
     let mut met = BTreeSet::new();
     for _ in 0..count {
-        let one = large_reading(rng, Below(5));
-        let (right, given) = (one.quotient(), single_quotient(one, int_of_15_digits));
+        let one = large_reading(rng, LITRES, Below(5));
+        let (right, given) = (one.volume(LITRES), single_quotient(one, int_of_15_digits));
         checks.same("eight digits", right >= LARGE, true);
         checks.same("15 digits, two ways", given, single_quotient_of_15_digits(one));
-        all_ways(checks, one, 10_000);
-        met.insert((one.lacking(), given - right));
+        all_ways(checks, one);
+        met.insert((one.lacking(LITRES), given - right));
     }
     let all = BTreeSet::from([(1, 1), (2, 1), (3, 1), (4, 1), (5, 0), (5, 1)]);
     checks.same("parts short of a litre, and litres too high", met, all);
 }
 
-/// The pressure that is solved for, against all pressures there are.
-fn nearest(checks: &mut Checks, rng: &Rng) {
-    for one in drawn(rng, 40) {
-        let at = |press: u32| Reading { press, ..one };
-        let all: Vec<u64> = (50_000..=300_000).map(|press| at(press).remainder()).collect();
-        let others = || all.iter().copied().filter(|&remainder| remainder > 0);
-        let given = |side| pressure(rng, one.flow, one.temp, side, PRESSURES).map(|press| at(press).remainder());
-        checks.same("on a litre", given(On), all.contains(&0).then_some(0));
-        checks.same("above a litre", given(Above(NEAREST)), others().min());
-        checks.same("below a litre", given(Below(NEAREST)), others().max());
+/// In one quotient hundredths are too high even in binary64, by one: its product passes 2^53.
+fn hundredths_too_high(checks: &mut Checks, rng: &Rng, count: usize) {
+    for _ in 0..count {
+        let one = large_reading(rng, HUNDREDTHS, Below(5));
+        checks.same("ten digits", one.hundredths() >= 100 * LARGE, true);
+        checks.same("hundredths in one quotient", in_binary64(one) - one.hundredths(), 1);
+        all_ways(checks, one);
     }
 }
 
-/// One turn of the class has every kind that is wanted of it.
-fn in_turn(checks: &mut Checks, seed: u64) {
-    let mut met = BTreeSet::new();
-    for case in 0..SIDES {
-        let record = whole_litres(&Rng::new(seed, case as u64), case, 4_000);
-        let quantified = quantify(&Call::of(&record)).unwrap();
-        let all = quantified.rows.iter().all(|row| row.outcome.iter().all(|&outcome| outcome == 0));
-        checks.same("all are counted", all, true);
-        met.extend(of_sheet(&quantified));
+/// The pressure that is solved for, against all pressures there are.
+fn nearest(checks: &mut Checks, rng: &Rng) {
+    for (one, unit) in drawn(rng, 40).into_iter().zip([LITRES, HUNDREDTHS].into_iter().cycle()) {
+        let at = |press: u32| Reading { press, ..one };
+        let all: Vec<u64> = (50_000..=300_000).map(|press| at(press).remainder(unit)).collect();
+        let others = || all.iter().copied().filter(|&remainder| remainder > 0);
+        let solved = |side| pressure(rng, unit, one.flow, one.temp, side, PRESSURES);
+        let given = |side| solved(side).map(|press| at(press).remainder(unit));
+        checks.same("on a whole unit", given(On), all.contains(&0).then_some(0));
+        checks.same("above a whole unit", given(Above(NEAREST)), others().min());
+        checks.same("below a whole unit", given(Below(NEAREST)), others().max());
     }
-    let lacking: Vec<String> = wanted().into_iter().filter(|kind| !met.contains(kind)).collect();
-    checks.same("kinds that a turn lacks", lacking, vec![]);
 }

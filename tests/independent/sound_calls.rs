@@ -2,11 +2,9 @@
 //! as there can be, roundings, whole years.
 
 use crate::draw::{self, cut, CH4_MAX, FLOW_MAX};
-use crate::plain_files::to_tonne_border;
 use crate::protocol::{MOST_CHECKS, MOST_DEVICES, MOST_INTERVALS};
 use crate::record::{Check, Device, Fuel, Record};
 use crate::rng::Rng;
-use crate::tonnes::{hundredths, methane_litres};
 
 /// Both sides of every border of the table of gaps.
 const GAPS: [usize; 7] = [1, 23, 24, 95, 96, 672, 673];
@@ -79,43 +77,6 @@ pub fn volumes(rng: &Rng, case: usize, _row: u64) -> Record {
             device.temp[i] = Some(rng.pick(&[-4_000, -3_999, -1, 0, 1, 2_000, 9_999, 10_000]));
             device.press[i] = Some(rng.pick(&[50_000, 50_001, 101_324, 101_325, 101_326, 299_999, 300_000]));
         }
-    }
-    record
-}
-
-/// Of some drawn readings the one whose methane lies the nearest below a whole litre more, and so loses the most.
-fn lossy(rng: &Rng) -> (u16, u16, i16, u32) {
-    let draw = || {
-        let reading = (rng.size(1, 40) as u16, rng.size(9_000, 9_999) as u16);
-        (reading.0, reading.1, rng.between(-4_000, 10_000) as i16, rng.size(50_000, 120_000) as u32)
-    };
-    let lost = |&(flow, ch4, temp, press): &(u16, u16, i16, u32)| {
-        let exact = flow as f64 * 100.0 * 29_315.0 * press as f64 / ((temp as f64 + 27_315.0) * 101_325.0) * ch4 as f64
-            / 10_000.0;
-        exact - methane_litres(hundredths(flow, temp, press), ch4) as f64
-    };
-    let drawn: Vec<_> = (0..60).map(|_| draw()).collect();
-    drawn.into_iter().max_by(|a, b| lost(a).total_cmp(&lost(b))).unwrap()
-}
-
-/// Readings that lose the most by rounding, of every kind of device: where demand 3 comes nearest to its limits.
-pub fn lost_by_rounding(rng: &Rng, case: usize, _row: u64) -> Record {
-    let n = if case % 40 == 0 { 2_976 } else { rng.pick(&[1, 2, 40]) };
-    let mut record = draw::record(rng, n, rng.pick(&[1, 1, 16]));
-    record.mine = 1;
-    for device in &mut record.devices {
-        device.kind = (case % 6) as u32 + 1;
-        let one = lossy(rng);
-        for i in 0..n {
-            let (flow, ch4, temp, press) = if n > 40 { one } else { lossy(rng) };
-            device.flow[i] = Some(flow);
-            device.ch4[i] = Some(ch4);
-            device.temp[i] = Some(temp);
-            device.press[i] = Some(press);
-        }
-    }
-    if case / 6 % 3 > 0 {
-        to_tonne_border(rng, case, &mut record);
     }
     record
 }
