@@ -30,7 +30,8 @@ pub fn run(checks: &mut Checks) {
 /// Up to here every whole number is a binary64.
 const EXACT: u64 = 1 << 53;
 
-/// Numbers below this have at most 14 digits.
+/// Numbers below this have at most 14 digits. A difference of 1 is then more than 2^-48 of what it is taken from: some
+/// spreadsheet programs take much smaller ones for 0.
 const FOURTEEN_DIGITS: u64 = 100_000_000_000_000;
 
 /// The pair is document 01's fraction, cut down by 25. In two steps the largest product is a hundredth of one step's.
