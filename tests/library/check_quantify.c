@@ -269,10 +269,11 @@ static void check_fuels(void)
 }
 
 /* "Numbers on both sides of a limit": one interval with these readings. */
-static struct call one(uint16_t flow, int16_t temp, uint32_t press, uint32_t fuels)
+static struct call one(uint16_t flow, uint16_t content, int16_t temp, uint32_t press, uint32_t fuels)
 {
     struct call c = worked(1, 1, fuels);
     c.flow[0] = flow;
+    c.content[0] = content;
     c.temp[0] = temp;
     c.press[0] = press;
     accepted("one interval", &c);
@@ -282,10 +283,14 @@ static struct call one(uint16_t flow, int16_t temp, uint32_t press, uint32_t fue
 static void check_numbers(void)
 {
     struct call c;
-    expect(one(1000, 2000, 101325, 0).amounts[CMM_METHANE_L] == 100000, "20.00 degrees", "litres");
-    expect(one(1000, 0, 101325, 0).amounts[CMM_METHANE_L] == 107321, "0.00 degrees", "litres");
-    expect(one(1, 10000, 50000, 0).amounts[CMM_METHANE_L] == 38, "100.00 degrees, 50,000 Pa", "litres");
-    c = one(500, 2000, 101325, 1);
+    /* 10,000,000, 10,732,198 and 3,876 hundredths of a litre, all methane. */
+    expect(one(1000, 10000, 2000, 101325, 0).amounts[CMM_METHANE_L] == 100000, "20.00 degrees", "litres");
+    expect(one(1000, 10000, 0, 101325, 0).amounts[CMM_METHANE_L] == 107321, "0.00 degrees", "litres");
+    expect(one(1, 10000, 10000, 50000, 0).amounts[CMM_METHANE_L] == 38, "100.00 degrees, 50,000 Pa", "litres");
+    /* 3,876 hundredths at 99 %: 37 by whole litres of gas. 325,684 hundredths at 95 %: 3,094 by one rounding at the end. */
+    expect(one(1, 9900, 10000, 50000, 0).amounts[CMM_METHANE_L] == 38, "99 % methane", "litres");
+    expect(one(11, 9500, 2000, 300000, 0).amounts[CMM_METHANE_L] == 3093, "95 % methane", "litres");
+    c = one(500, 10000, 2000, 101325, 1);
     expect(c.amounts[CMM_DESTROYED_L] == 49750 && c.amounts[CMM_UNCOMBUSTED_L] == 250, "Q 50,000", "litres");
     expect(c.amounts[CMM_CO2_MG] == 91253938, "Q 50,000", "CO2");
     expect(c.balances[CMM_REDUCTION_MG] == -94405688 && c.balances[CMM_TONNES] == -1, "a negative reduction", "balances");
