@@ -9,7 +9,6 @@ use lib.IntN.{ℤ}
 use lib.Signed.{_≤ℤ_}
 use Rattle.rows.specs.Rows.{sumTo, pick}
 use Rattle.rows.proofs.Sums.{sumTo-le, sumTo-add}
-use Rattle.volume.specs.Volume.{methaneLitres}
 use Rattle.volume.proofs.Earlier.{earlierMethaneLitres, never-fewer, one-more-at-most}
 use Rattle.balance.specs.Balance.{reductionAll, tonnesOf, fuelMg}
 use Rattle.balance.proofs.Monotone.{reduction-grows, tonnes-grow}

@@ -21,8 +21,8 @@ pub fn hundredths(flow: u16, temp: i16, press: u32) -> u64
     (flow as u64) * OVER * (press as u64) / (kelvin * UNDER)
 }
 
-// Litres of methane in so many hundredths of a litre of gas. Ruled out: rounded up or to the nearest; the content taken
-// for thousandths.
+// Litres of methane in so many hundredths of a litre of gas. Ruled out: rounded up or to the nearest; hundredths taken for
+// litres.
 pub fn methane_litres_in(hundredths: u64, content: u16) -> u64
     requires { ⌜ (hundredths ≤ hundredthsMost) × (content ≤ contentMost) ⌝ }
     ensures { λ r. ⌜ (r ≡ methaneLitresIn hundredths content) × (r ≤ litresMost) ⌝ }
@@ -31,7 +31,7 @@ pub fn methane_litres_in(hundredths: u64, content: u16) -> u64
 }
 
 // The methane litres of an interval, from the values used for it. Ruled out: one rounding at the end in place of two;
-// a result without the content.
+// whole litres of gas first; a result without the content.
 pub fn methane_litres(flow: u16, content: u16, temp: i16, press: u32) -> u64
     requires { ⌜ Inside flow temp press × (content ≤ contentMost) ⌝ }
     ensures { λ r. ⌜ (r ≡ methaneLitres flow content temp press) × (r ≤ litresMost) ⌝ }
