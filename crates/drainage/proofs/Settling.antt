@@ -15,9 +15,9 @@ use Rattle.volume.specs.Volume.{methaneLitres}
 use Rattle.drainage_outcomes.specs.Outcomes.{outcomeKinds, counted, litresFor}
 use Rattle.balance.specs.Balance.{destroyedOf, uncombustedOf, reductionOf, reductionAll, tonnesOf, creditsOf, Moderate}
 use Rattle.balance.proofs.Laws.{partition, partition-all, moderate}
-use Rattle.drainage_exact.specs.Exact.{Possible, exactReduction, promised, reportedQ}
+use Rattle.drainage_exact.specs.Exact.{Possible, exactReduction, promised, reportedQ, reportedTonnes}
 use Rattle.fractions.specs.Fair.{Fair}
-use Rattle.drainage_exact.proofs.Demand3.{countedOf, countedAll, demand-3-of}
+use Rattle.drainage_exact.proofs.Demand3.{countedOf, countedAll, reported-of, demand-3-of}
 use Rattle.drainage_device.specs.Device.{intervalsOf, outcomeAt, flowUsedAt, contentUsedAt, litresAt, methaneOf}
 use Rattle.drainage_device.proofs.Laws.{counted-inside, outcome-few, counts-add-up}
 use Rattle.drainage_devices.specs.Devices.{recordsOf, Results, resultsOf, outcomePart, flowPart, contentPart}
@@ -93,7 +93,7 @@ module _ (c : Call) (before : Results) (x : Unrefused c) where
         subst (λ (v : ℕ). v ≤ contentMost) (sym (content-at d k h l)) (y .1),
       )
 
-  possible : Possible (usedIn c after)
+  pub possible : Possible (usedIn c after)
   unfolding usedIn
   possible = record { warm = λ d k h l e. inside-at d k h l e .0; content-most = λ d k h l e. inside-at d k h l e .1 }
 
@@ -163,6 +163,10 @@ module _ (c : Call) (before : Results) (x : Unrefused c) where
   counted-all =
       sym (sumTo-ext (c .devices) (countedIn (lentIn c)) (λ d. sumTo (c .intervals) (λ k. pick (counted (outcomeGiven after (d * c .intervals + k))) 1 0))
       counted-in)
+
+  pub tonnes-are : reportedTonnes (usedIn c after) ≡ figuresOf c .tonnes
+  unfolding usedIn fuelSum figuresOf figuresFrom totalsOf reductionAll
+  tonnes-are = reported-of (usedIn c after) (kindIn (lentIn c)) (litresIn (lentIn c)) (λ d h. refl) litres-at
 
   fair-call : Fair (exactReduction (usedIn c after)) (figuresOf c .tonnes) (promised (figuresOf c .counted) (figuresOf c .devices))
   unfolding usedIn fuelSum figuresOf figuresFrom totalsOf reductionAll
@@ -247,10 +251,10 @@ module _ (c : Call) (before : Results) (x : Unrefused c) where
 
 -- ---- the call
 
-same-figures : (f g : Figures) → Accepted f ≡ Accepted g → f ≡ g
+pub same-figures : (f g : Figures) → Accepted f ≡ Accepted g → f ≡ g
 same-figures f g e = cc
 
-never : {X : Type 0} (r : Refusal) (f : Figures) → Refused r ≡ Accepted f → X
+pub never : {X : Type 0} (r : Refusal) (f : Figures) → Refused r ≡ Accepted f → X
 never r f e = let z : _≡_ {A = ℕ} 0 1 = cc in absurd (let w : ⊥ = omega arith in w)
 
 -- what is told of the answer, through the definition that gives it

@@ -2,7 +2,7 @@
 -- promised grams. First over an interval's loss, the factor of unburnt methane and the grams, then with those of rule 10.4.
 -- Assumes nothing.
 use Prim.Native.Nat.{ℕ, _+_, _*_, _/_, _≤_, _<_}
-use mathlib.Core.Path.{_≡_, refl, ap₂, _∙_, subst, subst₂}
+use mathlib.Core.Path.{_≡_, refl, ap, ap₂, _∙_, subst, subst₂}
 use native.Mathlib.Nat.{mul-pos, mul-comm}
 use native.Mathlib.Omega.{arith}
 use lib.IntN.{ℤ, pos}
@@ -97,12 +97,16 @@ unfolding exactReduction reportedTonnes promised countedAll reductionAll baselin
 demand-3 u s =
     fair covers (u .devices) (u .kind) (exactQ u) (reportedQ u) (countedOf u) (fuelMg (u .fuels) (u .quantity) (u .factor)) (q-close u s)
 
--- for a caller whose litres equal the reported ones device by device, and who has counted the same device-intervals
+-- for a caller whose litres equal the reported ones device by device: the tonnes are those that are reported
+pub reported-of : (u : Used) (kind q : ℕ → ℕ) → ((d : ℕ) → d < u .devices → u .kind d ≡ kind d) → ((d : ℕ) → d < u .devices → reportedQ u d ≡ q d)
+    → reportedTonnes u ≡ tonnesOf (reductionAll (u .devices) kind q (fuelMg (u .fuels) (u .quantity) (u .factor)))
+unfolding reportedTonnes
+reported-of u kind q h l =
+    ap tonnesOf (reduction-ext (u .devices) (u .kind) kind (reportedQ u) q (fuelMg (u .fuels) (u .quantity) (u .factor)) h l)
+
+-- and demand 3 holds, where the same device-intervals are counted
 pub demand-3-of : (u : Used) → Possible u → (kind q : ℕ → ℕ) (counted : ℕ) → ((d : ℕ) → d < u .devices → u .kind d ≡ kind d)
     → ((d : ℕ) → d < u .devices → reportedQ u d ≡ q d) → countedAll u ≡ counted
     → Fair (exactReduction u) (tonnesOf (reductionAll (u .devices) kind q (fuelMg (u .fuels) (u .quantity) (u .factor)))) (promised counted (u .devices))
-unfolding reportedTonnes
 demand-3-of u s kind q counted h l e =
-    subst₂ (λ (z : ℤ) (n : ℕ). Fair (exactReduction u) (tonnesOf z) (promised n (u .devices)))
-    (reduction-ext (u .devices) (u .kind) kind (reportedQ u) q (fuelMg (u .fuels) (u .quantity) (u .factor)) h l) e
-    (demand-3 u s)
+    subst₂ (λ (t : ℤ) (n : ℕ). Fair (exactReduction u) t (promised n (u .devices))) (reported-of u kind q h l) e (demand-3 u s)
