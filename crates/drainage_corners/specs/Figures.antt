@@ -69,10 +69,10 @@ sheets : (figuresOf worked ≡ burnt 2985000 15000 5475236250 210105000 70000000
     × (figuresOf (stopped (1 ∷ []) (1 ∷ [])) ≡ excluded 1 (negsuc 0) (negsuc 0))
     × (figuresOf (stopped (1000 ∷ []) (1000000 ∷ [])) ≡ excluded 1000000000 (negsuc 999999999) (negsuc 0))
     × (figuresOf (stopped (1000 ∷ 1 ∷ []) (1000000 ∷ 1 ∷ [])) ≡ excluded 1000000001 (negsuc 1000000000) (negsuc 1))
-unfolding figuresOf figuresFrom fuelSum totalsOf countedIn replacedIn excludedIn countIn litresIn recordsOf methaneOf litresAt litresFor methaneLitres methaneLitresIn hundredthsOf correctionDown outcomeAt outcomeOf flowUsedAt contentUsedAt valueAt correctedFlow correctedContent instrumentOf correctedAt keptOr corrected stretchDrift together replacementAt replacementOf gapStart gapEnd run whole usable classOf tallyOf meanOf limitOf meets greatestUpTo windowValues destroyedOf uncombustedOf baselineMg carbonDioxideMg uncombustedMg fuelMg baselineAll carbonDioxideAll uncombustedAll reductionOf tonnesOf creditsOf
+unfolding figuresOf figuresFrom fuelSum totalsOf countedIn replacedIn excludedIn countIn litresIn recordsOf methaneOf litresAt litresFor methaneLitres methaneLitresIn hundredthsOf correctionDown outcomeAt outcomeOf flowUsedAt contentUsedAt valueAt correctedFlow correctedContent instrumentOf correctedAt keptOr corrected stretchDrift together destroyedOf uncombustedOf baselineMg carbonDioxideMg uncombustedMg fuelMg baselineAll carbonDioxideAll uncombustedAll reductionOf tonnesOf creditsOf
 sheets = (refl, refl, refl, refl, refl, refl)
 
 -- rule 11.3: of 33 intervals one is replaced and all are counted
 mended : (figuresOf (gapped 16) .counted ≡ 33) × (figuresOf (gapped 16) .replaced ≡ 1) × (figuresOf (gapped 16) .excluded ≡ 0)
-unfolding figuresOf figuresFrom fuelSum totalsOf countedIn replacedIn excludedIn countIn litresIn recordsOf methaneOf litresAt litresFor methaneLitres methaneLitresIn hundredthsOf correctionDown outcomeAt outcomeOf flowUsedAt contentUsedAt valueAt correctedFlow correctedContent instrumentOf correctedAt keptOr corrected stretchDrift together replacementAt replacementOf gapStart gapEnd run whole usable classOf tallyOf meanOf limitOf meets greatestUpTo windowValues destroyedOf uncombustedOf baselineMg carbonDioxideMg uncombustedMg fuelMg baselineAll carbonDioxideAll uncombustedAll reductionOf tonnesOf creditsOf
+unfolding figuresOf figuresFrom totalsOf countedIn replacedIn excludedIn countIn recordsOf outcomeAt outcomeOf valueAt correctedFlow correctedContent instrumentOf correctedAt keptOr corrected stretchDrift together replacementAt replacementOf gapStart gapEnd run whole usable classOf tallyOf meanOf limitOf meets greatestUpTo windowValues
 mended = (refl, refl, refl)

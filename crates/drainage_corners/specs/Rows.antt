@@ -30,14 +30,14 @@ measured : after worked
       content = 10000 ∷ [];
       accounts = (1 ∷ 0 ∷ 0 ∷ 0 ∷ 0 ∷ 0 ∷ 0 ∷ 0 ∷ 0 ∷ 0 ∷ 3000000 ∷ 2985000 ∷ 15000 ∷ []) ++ replicate 195 0;
     }
-unfolding resultsOf outcomePart flowPart contentPart accountPart accountOf methaneOf litresAt litresFor methaneLitres methaneLitresIn hundredthsOf correctionDown destroyedOf uncombustedOf recordsOf outcomeAt outcomeOf flowUsedAt contentUsedAt valueAt correctedFlow correctedContent instrumentOf correctedAt keptOr corrected stretchDrift together replacementAt replacementOf gapStart gapEnd run whole usable classOf tallyOf meanOf limitOf meets greatestUpTo windowValues
+unfolding resultsOf outcomePart flowPart contentPart accountPart accountOf methaneOf litresAt litresFor methaneLitres methaneLitresIn hundredthsOf correctionDown destroyedOf uncombustedOf recordsOf outcomeAt outcomeOf flowUsedAt contentUsedAt valueAt correctedFlow correctedContent instrumentOf correctedAt keptOr corrected stretchDrift together
 measured = refl
 
 -- rule 6.4: checks at 0 and at N of one interval. Both failed: the greater drift counts (rule 6.5). One failed and one
 -- passed: the failed one, as a passed check there cuts nothing off (rule 6.3). 90 % low and 5 % high: the high one.
 ends : (after (checked 0 1 (pos 500) (pos 700)) .flow ≡ 934 ∷ []) × (after (checked 0 1 (pos 700) (pos 0)) .flow ≡ 934 ∷ [])
     × (after (checked 0 1 (pos 0) (pos 700)) .flow ≡ 934 ∷ []) × (after (checked 0 1 (negsuc 8999) (pos 500)) .flow ≡ 952 ∷ [])
-unfolding resultsOf outcomePart flowPart contentPart recordsOf outcomeAt outcomeOf flowUsedAt contentUsedAt valueAt correctedFlow correctedContent instrumentOf correctedAt keptOr corrected stretchDrift together replacementAt replacementOf gapStart gapEnd run whole usable classOf tallyOf meanOf limitOf meets greatestUpTo windowValues
+unfolding resultsOf outcomePart flowPart contentPart recordsOf outcomeAt outcomeOf flowUsedAt contentUsedAt valueAt correctedFlow correctedContent instrumentOf correctedAt keptOr corrected stretchDrift together
 ends = (refl, refl, refl, refl)
 
 -- the outcome and the flow used at interval i

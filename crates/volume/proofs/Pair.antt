@@ -31,18 +31,14 @@ hundredths-over-tied = refl
 pub under-tied : 25 * under ≡ protocol .pascal
 under-tied = refl
 
--- with a number that is tied to it so, the quotient is rule 9.1's correction, for every flow, temperature and pressure, in
--- range or not (at absolute zero and below both are the logic's quotient by 0)
-by-pair : (factor o flow : ℕ) (temp : ℤ) (press : ℕ) → 25 * o ≡ factor * protocol .kelvin
-    → flow * o * press / (kelvinOf temp * under) ≡ correctionDown factor flow temp press
-unfolding correctionDown
-by-pair factor o flow temp press tied =
-    let scaled = ap (λ (n : ℕ). flow * n * press) tied in
-    sym (mul-div-mul-left (flow * o * press) (kelvinOf temp * under) (let z : 0 < 25 = omega arith in z))
-    ∙ ap (λ (n : ℕ). n / (25 * (kelvinOf temp * under))) (let z : 25 * (flow * o * press) ≡ correctionOver factor flow press = omega (arith, scaled) in z)
-    ∙ ap (λ (n : ℕ). correctionOver factor flow press / n) (let z : 25 * (kelvinOf temp * under) ≡ correctionUnder temp = omega arith in z)
-
--- the hundredths in one product, as the code works them
+-- in one product, as the code works them, the hundredths are rule 9.1's, for every flow, temperature and pressure, in range
+-- or not (at absolute zero and below both are the logic's quotient by 0)
 pub same-hundredths : (flow : ℕ) (temp : ℤ) (press : ℕ) → flow * hundredthsOver * press / (kelvinOf temp * under) ≡ hundredthsOf flow temp press
-unfolding hundredthsOf
-same-hundredths flow temp press = by-pair hundredthsFactor hundredthsOver flow temp press hundredths-over-tied
+unfolding hundredthsOf correctionDown
+same-hundredths flow temp press =
+    sym (mul-div-mul-left (flow * hundredthsOver * press) (kelvinOf temp * under) (let z : 0 < 25 = omega arith in z))
+    ∙ ap (λ (n : ℕ). n / (25 * (kelvinOf temp * under))) (let z : 25 * (flow * hundredthsOver * press) ≡ parts = omega arith in z)
+    ∙ ap (λ (n : ℕ). parts / n) (let z : 25 * (kelvinOf temp * under) ≡ correctionUnder temp = omega arith in z)
+  where
+    parts : ℕ
+    parts = correctionOver hundredthsFactor flow press

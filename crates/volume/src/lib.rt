@@ -5,8 +5,8 @@ ghost use Rattle.protocol.specs.Ranges.{contentMost};
 ghost use Rattle.volume.specs.Volume.{hundredthsOf, methaneLitresIn, methaneLitres, Inside, hundredthsMost, litresMost};
 use protocol::Protocol;
 
-// 10,000 × 29,315 / 101,325 with both sides divided by 25 (rule 9.15). One product and one division: the two steps of that
-// rule would take twice the time of a year (docs/DECISIONS.md).
+// 10,000 × 29,315 / 101,325 with both sides divided by 25. One product and one division: with the two steps of rule 9.15
+// a year would take twice the time (docs/DECISIONS.md).
 const OVER: u64 = 10000 * Protocol::KELVIN / 25;
 
 const UNDER: u64 = Protocol::PASCAL / 25;
