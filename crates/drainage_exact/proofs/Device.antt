@@ -12,7 +12,8 @@ use Rattle.balance.specs.Balance.{destroyedOf, uncombustedOf, carbonDioxideMg}
 use Rattle.balance.proofs.Laws.{partition}
 use Rattle.protocol.proofs.Integers.{is-pos, is-minus, is-times}
 use Rattle.fractions.specs.Fraction.{Fraction, over}
-use Rattle.drainage_exact.specs.Exact.{exactDestroyed, exactUncombusted, exactUnburntMg, exactCarbonMg, exactDeviceMg}
+use Rattle.drainage_exact.specs.Exact.{exactDestroyed, exactUncombusted, exactDeviceMg}
+use Rattle.fractions.specs.Worth.{exactUnburntMg, exactCarbonMg}
 use Rattle.fractions.proofs.Near.{Near, near-is}
 use Rattle.fractions.proofs.Close.{Close}
 

@@ -6,13 +6,14 @@ use mathlib.Core.Path.{_≡_, refl}
 use mathlib.Core.Bool.{Bool, true}
 use lib.IntN.{ℤ, pos}
 use Rattle.rows.specs.Rows.{sumTo, pick}
-use Rattle.protocol.specs.Numbers.{protocol, methaneMg, carbonMg}
+use Rattle.protocol.specs.Numbers.{methaneMg}
 use Rattle.protocol.specs.Kinds.{thousandthsOf}
 use Rattle.protocol.specs.Ranges.{kelvinOf, contentMost}
 use Rattle.volume.specs.Volume.{correctionOver, correctionUnder, correctionDown, hundredthsFactor, hundredthsOf, methaneUnder, methaneLitresIn, methaneLitres}
 use Rattle.balance.specs.Balance.{fuelMg, reductionOf, reductionAll, baselineAll, carbonDioxideAll, uncombustedAll, baselineMg, carbonDioxideMg, uncombustedMg}
 use Rattle.balance.specs.Balance.{destroyedOf, uncombustedOf, tonnesOf}
 use Rattle.fractions.specs.Fraction.{Fraction, over, asFraction, _-ᶠ_, _*ᶠ_, sumᶠ, _≤ᶠ_}
+use Rattle.fractions.specs.Worth.{exactUnburntMg, exactCarbonMg}
 
 -- The values used: of device d in interval k, whether the interval is counted, flow, CH4 content, temperature and
 -- pressure, in the units of rule 3.3; each device's kind; the fuel lines.
@@ -57,15 +58,6 @@ exactDestroyed kind q = q *ᶠ over (thousandthsOf kind) 1000
 -- rule 9.5 without its rounding
 unfoldable pub exactUncombusted : ℕ → Fraction → Fraction
 exactUncombusted kind q = q *ᶠ over (1000 - thousandthsOf kind) 1000
-
--- mg of so many litres of methane that are not burnt, at `unburnt` mg a litre. Of Q this is the baseline (rule 9.7),
--- of the uncombusted litres it is uncombusted mg (rule 9.9).
-unfoldable pub exactUnburntMg : ℕ → Fraction → Fraction
-exactUnburntMg unburnt litres = asFraction (pos unburnt) *ᶠ litres
-
--- rule 9.8 without its rounding
-unfoldable pub exactCarbonMg : Fraction → Fraction
-exactCarbonMg destroyed = over carbonMg (protocol .«carbon_under») *ᶠ destroyed
 
 -- rule 10.1: a device's baseline less CO2 and uncombusted
 unfoldable pub exactDeviceMg : ℕ → ℕ → Fraction → Fraction
