@@ -1,3 +1,4 @@
 pub mod SignedLaws
 pub mod KindLaws
 pub mod Integers
+pub mod RoundingLaws

@@ -11,7 +11,7 @@ use Rattle.refusals.specs.declared.Column.{Column}
 use Rattle.refusals.specs.declared.Column.the-variants.{Flow, Content, Temp, Press, Status}
 use Rattle.refusals.specs.declared.Refusal.{Refusal}
 use Rattle.refusals.specs.declared.Refusal.the-variants.{Intervals, Devices, Lengths, Mine, Kind, Misplaced, Check, Fuel, NoSheet, ShortBuffer}
-use Rattle.refusals.specs.declared.Refusal.the-variants.{Line, Room, ExportLength, SampleQuality, SampleReading, Reading}
+use Rattle.refusals.specs.declared.Refusal.the-variants.{Line, Room, ExportLength, SampleQuality, SampleReading, Reading, Inlet, Exhaust}
 use Rattle.refusals.specs.declared.Verdict.{Verdict}
 use Rattle.refusals.specs.declared.Verdict.the-variants.{Clean, Refused}
 use Rattle.refusals.specs.declared.Told.{Told}
@@ -44,6 +44,8 @@ toldOf ExportLength = told 14 0 0
 toldOf (SampleQuality sample) = told 15 0 sample
 toldOf (SampleReading sample) = told 16 0 sample
 toldOf (Reading column device interval) = told (readingNumber column) device interval
+toldOf (Inlet device interval) = told 22 device interval
+toldOf (Exhaust device interval) = told 23 device interval
 
 -- where nothing is refused
 abbrev pub nothing : Told
@@ -58,7 +60,8 @@ abbrev all : List Refusal
 all =
     Intervals ∷ Devices ∷ Lengths ∷ Mine ∷ Kind 0 ∷ Misplaced 0 ∷ Check 0 0 ∷ Fuel 0
     ∷ NoSheet 0 ∷ ShortBuffer 0 ∷ Line 0 ∷ Room ∷ ExportLength ∷ SampleQuality 0 ∷ SampleReading 0
-    ∷ Reading Flow 0 0 ∷ Reading Content 0 0 ∷ Reading Temp 0 0 ∷ Reading Press 0 0 ∷ Reading Status 0 0 ∷ []
+    ∷ Reading Flow 0 0 ∷ Reading Content 0 0 ∷ Reading Temp 0 0 ∷ Reading Press 0 0 ∷ Reading Status 0 0
+    ∷ Inlet 0 0 ∷ Exhaust 0 0 ∷ []
 
 lacks : ℕ → List Refusal → Bool
 lacks number [] = true
@@ -100,6 +103,8 @@ listed (Reading Content device interval) = refl
 listed (Reading Temp device interval) = refl
 listed (Reading Press device interval) = refl
 listed (Reading Status device interval) = refl
+listed (Inlet device interval) = refl
+listed (Exhaust device interval) = refl
 
 -- rule 4.8: 8, once any wrong reading's, is given up: no refusal has it, and so no verdict
 eight-lacks : lacks 8 all ≡ true

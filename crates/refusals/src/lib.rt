@@ -29,6 +29,8 @@ pub enum Refusal {
     SampleQuality(usize),
     SampleReading(usize),
     Reading(Column, usize, usize),
+    Inlet(usize, usize),
+    Exhaust(usize, usize),
 }
 
 // Nothing is wrong, or the first refusal.
@@ -97,6 +99,8 @@ impl Refusal {
                 device,
                 interval,
             ),
+            Refusal::Inlet(device, interval) => Told::at(22, device, interval),
+            Refusal::Exhaust(device, interval) => Told::at(23, device, interval),
         }
     }
 }

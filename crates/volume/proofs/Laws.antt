@@ -1,12 +1,14 @@
 -- Bounds of the volume's numbers, and what the crates above may cite of `methaneLitres`.
 -- Assumes nothing.
-use Prim.Native.Nat.{ℕ, _*_, _/_, _≤_}
+use Prim.Native.Nat.{ℕ, _+_, _*_, _/_, _≤_}
 use mathlib.Core.Path.{_≡_, ap, _∙_, subst}
 use native.Mathlib.Nat.{mul-le-mul, mul-le-mul-right, mul-div-le, zero-mul, zero-div}
 use native.Mathlib.Omega.{arith}
 use lib.IntN.{ℤ}
-use Rattle.protocol.specs.Ranges.{kelvinOf, flowMost, contentMost}
-use Rattle.volume.specs.Volume.{correctionUnder, correctionDown, hundredthsOf, methaneUnder, methaneLitresIn, methaneLitres, Inside, hundredthsMost, litresMost}
+use Rattle.protocol.specs.Ranges.{kelvinOf, flowMost, contentMost, ppmMost}
+use Rattle.protocol.specs.Rounding.{ceilDiv}
+use Rattle.volume.specs.Volume.{correctionUnder, correctionDown, correctionUp, hundredthsFactor, hundredthsOf, methaneUnder, methaneLitresIn, methaneLitres, Inside, hundredthsMost, litresMost, airMost}
+use Rattle.volume.proofs.Mirror.{up-one-more}
 use Rattle.volume.proofs.Pair.{hundredthsOver, under, same-hundredths}
 
 -- flow × 11,726,000 × pressure is at most 105,534,000,000,000,000
@@ -29,13 +31,27 @@ hundredths-most flow temp press i =
     (quotient-most (flow * hundredthsOver * press) (kelvinOf temp) (flow * hundredthsOver * press / (kelvinOf temp * under))
     (over-most flow press (i .flow-most) (i .press-most)) (i .kelvin-least) (mul-div-le (flow * hundredthsOver * press) (kelvinOf temp * under)))
 
--- hundredths × content is at most 11,168,127,810,000
-pub content-product-most : (hundredths content : ℕ) → hundredths ≤ hundredthsMost → content ≤ contentMost → hundredths * content ≤ 11168127810000
-content-product-most hundredths content a b = let h : hundredths * content ≤ hundredthsMost * 10000 = mul-le-mul a b in omega arith
+-- rounded up they are one more at the most
+pub up-most : (flow : ℕ) (temp : ℤ) (press : ℕ) → Inside flow temp press → correctionUp hundredthsFactor flow temp press ≤ hundredthsMost + 1
+unfolding hundredthsOf
+up-most flow temp press i =
+    let most : correctionDown hundredthsFactor flow temp press ≤ hundredthsMost = hundredths-most flow temp press i in
+    omega (arith, up-one-more hundredthsFactor flow temp press (omega (arith, i .kelvin-least)))
+
+-- hundredths × content of ventilation air, with one of them more, is at most 22,336,255,640,000
+pub content-product-most : (parts content : ℕ) → parts ≤ hundredthsMost + 1 → content ≤ ppmMost → parts * content ≤ 22336255640000
+content-product-most parts content a b = let h : parts * content ≤ 1116812782 * 20000 = mul-le-mul a b in omega arith
+
+-- methane of ventilation air, down and up
+pub air-most : (parts content : ℕ) → parts ≤ hundredthsMost → content ≤ ppmMost → parts * content / methaneUnder ≤ airMost
+air-most parts content a b = let h : parts * content ≤ hundredthsMost * 20000 = mul-le-mul a b in omega arith
+
+pub air-up-most : (parts content : ℕ) → parts ≤ hundredthsMost + 1 → content ≤ ppmMost → ceilDiv (parts * content) methaneUnder ≤ airMost + 1
+air-up-most parts content a b = omega (arith, content-product-most parts content a b)
 
 -- there is no more methane than gas
 pub methane-most : (hundredths content : ℕ) → hundredths ≤ hundredthsMost → content ≤ contentMost → hundredths * content / methaneUnder ≤ litresMost
-methane-most hundredths content a b = omega (arith, content-product-most hundredths content a b)
+methane-most hundredths content a b = let h : hundredths * content ≤ hundredthsMost * 10000 = mul-le-mul a b in omega arith
 
 -- no flow, no methane
 pub no-flow : (content : ℕ) (temp : ℤ) (press : ℕ) → methaneLitres 0 content temp press ≡ 0

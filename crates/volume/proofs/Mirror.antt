@@ -1,20 +1,13 @@
 -- The correction rounded up beside the one rounded down, over any factor: not below the exact parts, by less than a part
 -- above them, and so the same as rounded down or one part more.
 -- Assumes nothing.
-use Prim.Native.Nat.{ℕ, _+_, _-_, _*_, _/_, _≤_, _<_}
+use Prim.Native.Nat.{ℕ, _+_, _*_, _/_, _≤_, _<_}
 use native.Mathlib.Nat.{mul-div-le, lt-mul-div-succ, le-of-mul-le-mul-left, lt-of-mul-lt-mul-left}
 use native.Mathlib.Omega.{arith}
 use lib.IntN.{ℤ}
 use Rattle.protocol.specs.Ranges.{kelvinOf}
-use Rattle.protocol.specs.Rounding.{ceilDiv}
+use Rattle.protocol.proofs.RoundingLaws.{ceil-low, ceil-high}
 use Rattle.volume.specs.Volume.{correctionOver, correctionUnder, correctionDown, correctionUp}
-
--- a / b rounded up
-up-low : (a b : ℕ) → 0 < b → a ≤ b * ceilDiv a b
-up-low a b h = omega (arith, lt-mul-div-succ (a + (b - 1)) h)
-
-up-high : (a b : ℕ) → 0 < b → b * ceilDiv a b < a + b
-up-high a b h = omega (arith, mul-div-le (a + (b - 1)) b)
 
 -- q whole parts and u rounded up
 not-fewer : (a b q u : ℕ) → 0 < b → b * q ≤ a → a ≤ b * u → q ≤ u
@@ -31,11 +24,11 @@ module _ (factor flow : ℕ) (temp : ℤ) (press : ℕ) (warm : 0 < kelvinOf tem
 
   pub up-not-below : correctionOver factor flow press ≤ correctionUnder temp * correctionUp factor flow temp press
   unfolding correctionUp
-  up-not-below = up-low (correctionOver factor flow press) (correctionUnder temp) above
+  up-not-below = ceil-low (correctionOver factor flow press) (correctionUnder temp) above
 
   pub up-by-less : correctionUnder temp * correctionUp factor flow temp press < correctionOver factor flow press + correctionUnder temp
   unfolding correctionUp
-  up-by-less = up-high (correctionOver factor flow press) (correctionUnder temp) above
+  up-by-less = ceil-high (correctionOver factor flow press) (correctionUnder temp) above
 
   pub down-not-above-up : correctionDown factor flow temp press ≤ correctionUp factor flow temp press
   unfolding correctionDown

@@ -9,7 +9,9 @@ use native.Mathlib.Omega.{arith}
 use lib.IntN.{ℤ}
 use Rattle.protocol.specs.Numbers.{protocol}
 use Rattle.protocol.specs.Ranges.{kelvinOf}
-use Rattle.volume.specs.Volume.{correctionOver, correctionUnder, correctionDown, hundredthsFactor, hundredthsOf}
+use Rattle.protocol.specs.Rounding.{ceilDiv}
+use Rattle.protocol.proofs.RoundingLaws.{ceil-same}
+use Rattle.volume.specs.Volume.{correctionOver, correctionUnder, correctionDown, correctionUp, hundredthsFactor, hundredthsOf}
 
 abbrev pub over : ℕ
 over = 117260
@@ -39,6 +41,18 @@ same-hundredths flow temp press =
     sym (mul-div-mul-left (flow * hundredthsOver * press) (kelvinOf temp * under) (let z : 0 < 25 = omega arith in z))
     ∙ ap (λ (n : ℕ). n / (25 * (kelvinOf temp * under))) (let z : 25 * (flow * hundredthsOver * press) ≡ parts = omega arith in z)
     ∙ ap (λ (n : ℕ). parts / n) (let z : 25 * (kelvinOf temp * under) ≡ correctionUnder temp = omega arith in z)
+  where
+    parts : ℕ
+    parts = correctionOver hundredthsFactor flow press
+
+-- and so they are rounded up, where there is a quotient
+pub same-up : (flow : ℕ) (temp : ℤ) (press : ℕ) → 0 < kelvinOf temp
+    → ceilDiv (flow * hundredthsOver * press) (kelvinOf temp * under) ≡ correctionUp hundredthsFactor flow temp press
+unfolding correctionUp
+same-up flow temp press warm =
+    ceil-same 25 (flow * hundredthsOver * press) (kelvinOf temp * under) (omega (arith, warm)) (omega arith)
+    ∙ ap (λ (n : ℕ). ceilDiv n (25 * (kelvinOf temp * under))) (let z : 25 * (flow * hundredthsOver * press) ≡ parts = omega arith in z)
+    ∙ ap (λ (n : ℕ). ceilDiv parts n) (let z : 25 * (kelvinOf temp * under) ≡ correctionUnder temp = omega arith in z)
   where
     parts : ℕ
     parts = correctionOver hundredthsFactor flow press

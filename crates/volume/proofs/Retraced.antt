@@ -127,6 +127,6 @@ digits flow content temp press i h =
       k-product-digits = omega (arith, most);
       j-product-digits = omega (arith, last);
       l-digits = omega (arith, most);
-      l-product-digits = omega (arith, content-product-most (cellL flow temp press) content most h);
+      l-product-digits = omega (arith, content-product-most (cellL flow temp press) content (omega (arith, most)) (omega (arith, h)));
       m-digits = omega (arith, methane-most (cellL flow temp press) content most h);
     }

@@ -1,6 +1,6 @@
--- From used readings to litres of methane (rules 9.1 and 9.2).
+-- From used readings to litres of methane (rules 9.1 and 9.2; in ventilation air rules 19.2 and 19.3).
 -- Assumes nothing.
-use Prim.Native.Nat.{ℕ, _*_, _/_, _≤_}
+use Prim.Native.Nat.{ℕ, _+_, _*_, _/_, _≤_}
 use mathlib.Core.Path.{_≡_, refl}
 use lib.IntN.{ℤ, pos, negsuc}
 use Rattle.protocol.specs.Numbers.{protocol}
@@ -24,7 +24,8 @@ correctionDown factor flow temp press = correctionOver factor flow press / corre
 unfoldable pub correctionUp : ℕ → ℕ → ℤ → ℕ → ℕ
 correctionUp factor flow temp press = ceilDiv (correctionOver factor flow press) (correctionUnder temp)
 
--- 0.1 m3, the unit of a flow, is 10,000 hundredths of a litre
+-- 0.1 m3, the unit of a flow, is 10,000 hundredths of a litre; in ventilation air 10 m3, the unit there, is 10,000 litres, so
+-- that what is in hundredths below is in litres there, by the same numbers
 abbrev pub hundredthsFactor : ℕ
 hundredthsFactor = 10000
 
@@ -34,7 +35,8 @@ hundredthsOf flow temp press = correctionDown hundredthsFactor flow temp press
 
 -- ---- rule 9.2
 
--- a litre of methane: 100 hundredths of a litre at a content of 100 %, which is 10,000 (rule 3.3)
+-- a litre of methane: 100 hundredths of a litre at a content of 100 %, which is 10,000 (rule 3.3); in ventilation air a litre
+-- at 1,000,000 ppm
 abbrev pub methaneUnder : ℕ
 methaneUnder = 1000000
 
@@ -45,6 +47,13 @@ methaneLitresIn hundredths content = hundredths * content / methaneUnder
 -- rule 9.2 after rule 9.1: the methane litres of an interval, rounded down twice. The crates above cite this one.
 unfoldable pub methaneLitres : ℕ → ℕ → ℤ → ℕ → ℕ
 methaneLitres flow content temp press = methaneLitresIn (hundredthsOf flow temp press) content
+
+-- the same rounded up twice, as the exhaust of ventilation air is (rule 19.3): the methane in so many parts, and of an interval
+unfoldable pub methaneLitresUpIn : ℕ → ℕ → ℕ
+methaneLitresUpIn parts content = ceilDiv (parts * content) methaneUnder
+
+unfoldable pub methaneLitresUp : ℕ → ℕ → ℤ → ℕ → ℕ
+methaneLitresUp flow content temp press = methaneLitresUpIn (correctionUp hundredthsFactor flow temp press) content
 
 -- ---- limits
 
@@ -62,6 +71,10 @@ hundredthsMost = 1116812781
 -- and in whole litres, of methane too
 abbrev pub litresMost : ℕ
 litresMost = 11168127
+
+-- rule 19.11: of ventilation air, in litres of methane rounded down; rounded up it is one more
+abbrev pub airMost : ℕ
+airMost = 22336255
 
 -- ---- numbers
 
@@ -100,6 +113,15 @@ up-at-reference = refl
 little : methaneLitresIn 300 4999 ≡ 1
 unfolding methaneLitresIn
 little = refl
+
+-- rule 19.11: 300,000 m3 of air with 20,000 ppm at -40.00 °C and 300,000 Pa, down and up
+air-at-most : methaneLitres 30000 20000 (negsuc 3999) 300000 ≡ airMost
+unfolding methaneLitres methaneLitresIn hundredthsOf correctionDown
+air-at-most = refl
+
+air-at-most-up : methaneLitresUp 30000 20000 (negsuc 3999) 300000 ≡ airMost + 1
+unfolding methaneLitresUp methaneLitresUpIn correctionUp
+air-at-most-up = refl
 
 -- 38.76 l of gas at 99 %: 38.37 l, where whole litres of gas first would give 37
 an-interval : methaneLitres 1 9900 (pos 10000) 50000 ≡ 38

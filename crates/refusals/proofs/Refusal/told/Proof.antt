@@ -105,17 +105,29 @@ number-requires c κs = search needs
 at-requires-16 : tie.Need-at-requires-16
 at-requires-16 c κs = search needs
 
+enum-known-self-11 : tie.Need-enum-known-self-11
+enum-known-self-11 c = search needs
+
+at-requires-17 : tie.Need-at-requires-17
+at-requires-17 c κs = search needs
+
+enum-known-self-12 : tie.Need-enum-known-self-12
+enum-known-self-12 c = search needs
+
+at-requires-18 : tie.Need-at-requires-18
+at-requires-18 c κs = search needs
+
 returns : tie.Need-returns
-returns c = c .at .ensures ∙ search needs
+returns c = c .at .ensures ∙ ap toldOf (sym (c .before .enum-told .given .1))
 
 returns-2 : tie.Need-returns-2
-returns-2 c = c .at2 .ensures ∙ search needs
+returns-2 c = c .at2 .ensures ∙ ap toldOf (sym (c .before .enum-told2 .given .1))
 
 returns-3 : tie.Need-returns-3
-returns-3 c = c .at3 .ensures ∙ search needs
+returns-3 c = c .at3 .ensures ∙ ap toldOf (sym (c .before .enum-told3 .given .1))
 
 returns-4 : tie.Need-returns-4
-returns-4 c = c .at4 .ensures ∙ search needs
+returns-4 c = c .at4 .ensures ∙ ap toldOf (sym (c .before .enum-told4 .given .1))
 
 returns-5 : tie.Need-returns-5
 returns-5 c = c .at5 .ensures ∙ ap toldOf (sym (c .before .before .self .given .1))
@@ -139,10 +151,10 @@ returns-11 : tie.Need-returns-11
 returns-11 c = c .at11 .ensures ∙ ap toldOf (sym (c .before .before .self7 .given .1))
 
 returns-12 : tie.Need-returns-12
-returns-12 c = c .at12 .ensures ∙ search needs
+returns-12 c = c .at12 .ensures ∙ ap toldOf (sym (c .before .enum-told5 .given .1))
 
 returns-13 : tie.Need-returns-13
-returns-13 c = c .at13 .ensures ∙ search needs
+returns-13 c = c .at13 .ensures ∙ ap toldOf (sym (c .before .enum-told6 .given .1))
 
 returns-14 : tie.Need-returns-14
 returns-14 c = c .at14 .ensures ∙ ap toldOf (sym (c .before .before .self8 .given .1))
@@ -154,6 +166,12 @@ returns-16 : tie.Need-returns-16
 returns-16 c =
     let x = c .before .before .before .self10 .given in
     c .at16 .ensures ∙ ap (λ (n : ℕ). told n (x .0 .1 .0) (x .0 .1 .1 .0)) (c .before .number .ensures) ∙ ap toldOf (sym (x .1))
+
+returns-17 : tie.Need-returns-17
+returns-17 c = c .at17 .ensures ∙ ap toldOf (sym (c .before .before .self11 .given .1))
+
+returns-18 : tie.Need-returns-18
+returns-18 c = c .at18 .ensures ∙ ap toldOf (sym (c .before .before .self12 .given .1))
 
 pub told-spec : {M : Type 1} → statement M
 told-spec =
@@ -192,6 +210,10 @@ told-spec =
     enum-known-self-10
     number-requires
     at-requires-16
+    enum-known-self-11
+    at-requires-17
+    enum-known-self-12
+    at-requires-18
     returns
     returns-2
     returns-3
@@ -207,4 +229,6 @@ told-spec =
     returns-13
     returns-14
     returns-15
-    returns-16)
+    returns-16
+    returns-17
+    returns-18)
