@@ -68,47 +68,8 @@ unfolding carbonDioxideMg
 carbon-le d = omega arith
 
 -- the products that destroyed and uncombusted make of a device's litres stay below 2^50
-pub thousand-times : (q k : ℕ) → q ≤ deviceMost → k ≤ 1000 → q * k ≤ 392403310272000
+pub thousand-times : (q k : ℕ) → q ≤ deviceMost → k ≤ 1000 → q * k ≤ 784806655680000
 thousand-times q k h l = let p : q * k ≤ deviceMost * 1000 = mul-le-mul h l in omega arith
-
-pub baseline-most : (devices : ℕ) (kind q : ℕ → ℕ) → devices ≤ 16 → ((d : ℕ) → d < devices → q d ≤ deviceMost)
-    → baselineAll devices kind q ≤ 87942290671678464
-unfolding baselineAll baselineMg
-baseline-most devices kind q h l =
-    let a = sumTo-bound devices (methaneMg * deviceMost) (λ d. methaneMg * q d) (λ d m. mul-le-mul-left methaneMg (l d m)) in
-    let b : devices * (methaneMg * deviceMost) ≤ 16 * (methaneMg * deviceMost) = mul-le-mul h (le-refl (methaneMg * deviceMost)) in
-    omega arith
-
-pub carbon-most : (devices : ℕ) (kind q : ℕ → ℕ) → devices ≤ 16 → ((d : ℕ) → d < devices → q d ≤ deviceMost)
-    → carbonDioxideAll devices kind q ≤ 11520961189585920
-unfolding carbonDioxideAll
-carbon-most devices kind q h l =
-    let a = sumTo-bound devices 720060074349120 (λ d. carbonDioxideMg (destroyedOf (kind d) (q d))) (λ d m.
-    let x = carbon-le (destroyedOf (kind d) (q d)) in
-    let y = destroyed-le (kind d) (q d) in
-    let z : q d ≤ deviceMost = l d m in
-    omega arith) in
-    let b : devices * 720060074349120 ≤ 16 * 720060074349120 = mul-le-mul h (le-refl 720060074349120) in
-    omega arith
-
-pub uncombusted-most : (devices : ℕ) (kind q : ℕ → ℕ) → devices ≤ 16 → ((d : ℕ) → d < devices → q d ≤ deviceMost)
-    → uncombustedAll devices kind q ≤ 87942290671678464
-unfolding uncombustedAll uncombustedMg
-uncombusted-most devices kind q h l =
-    let a = sumTo-bound devices (methaneMg * deviceMost) (λ d. methaneMg * uncombustedOf (kind d) (q d)) (λ d m.
-    mul-le-mul-left methaneMg (le-trans (uncombusted-le (kind d) (q d)) (l d m))) in
-    let b : devices * (methaneMg * deviceMost) ≤ 16 * (methaneMg * deviceMost) = mul-le-mul h (le-refl (methaneMg * deviceMost)) in
-    omega arith
-
--- what `reduction` and `tonnes` require, of a year of 16 devices and 64 fuel lines
-pub moderate : (devices : ℕ) (kind q : ℕ → ℕ) (fuel : ℕ) → devices ≤ 16 → ((d : ℕ) → d < devices → q d ≤ deviceMost)
-    → fuel ≤ 256000000000000000
-    → Moderate (baselineAll devices kind q) (carbonDioxideAll devices kind q + uncombustedAll devices kind q + fuel)
-moderate devices kind q fuel h l f =
-    let a = baseline-most devices kind q h l in
-    let b = carbon-most devices kind q h l in
-    let c = uncombusted-most devices kind q h l in
-    record { credit-most = omega arith; debit-most = omega arith }
 
 -- devices of equal kinds and litres have equal sums
 pub over-ext : (f : ℕ → ℕ → ℕ) (devices : ℕ) (kind kind' q q' : ℕ → ℕ)

@@ -80,9 +80,10 @@ unfoldable pub creditsOf : ℤ → ℕ
 creditsOf (pos n) = n
 creditsOf (negsuc n) = 0
 
--- rule 9.14: the most methane litres that a device can have, 35,136 intervals of 11,168,127
+-- the most methane litres that any device can have: 35,136 intervals of an oxidiser, 22,336,255 each (rule 19.11). Of drainage
+-- gas it is 392,403,310,272 (rule 9.14).
 abbrev pub deviceMost : ℕ
-deviceMost = 392403310272
+deviceMost = 784806655680
 
 -- litres, thousandths and a rounding whose product and sum fit 64 bits
 pub record Shared (q thousandths more : ℕ) : Type 0 where

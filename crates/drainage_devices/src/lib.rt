@@ -18,39 +18,6 @@ pub const ACCOUNT: usize = 13;
 
 pub const ACCOUNTS: usize = 208;
 
-pub struct Totals {
-    pub counted: u64,
-    pub replaced: u64,
-    pub excluded: u64,
-    pub methane: u64,
-    pub destroyed: u64,
-    pub uncombusted: u64,
-    pub baseline_mg: u64,
-    pub co2_mg: u64,
-    pub uncombusted_mg: u64,
-}
-
-// Ruled out: CO2 rounded once over all devices; replaced intervals counted as excluded.
-fn add(t: Totals, a: Account) -> Totals
-    requires { ⌜ Room t a ⌝ }
-    ensures { λ r. ⌜ r ≡ added t a ⌝ }
-{
-    let times = a.outcomes;
-    let replaced = times[1] + times[2];
-    let excluded = times[3] + times[4] + times[5] + times[6] + times[7] + times[8] + times[9];
-    Totals {
-        counted: t.counted + (times[0] + times[1] + times[2]),
-        replaced: t.replaced + replaced,
-        excluded: t.excluded + excluded,
-        methane: t.methane + a.methane,
-        destroyed: t.destroyed + a.destroyed,
-        uncombusted: t.uncombusted + a.uncombusted,
-        baseline_mg: t.baseline_mg + balance::methane_mg(a.methane),
-        co2_mg: t.co2_mg + balance::carbon_dioxide_mg(a.destroyed),
-        uncombusted_mg: t.uncombusted_mg + balance::methane_mg(a.uncombusted),
-    }
-}
-
 // Device d's part of each row is lent on to the function that fills one device's row. Ruled out: a part that starts in the
 // neighbour's row; a neighbour's entry changed.
 fn fill_device(
@@ -100,24 +67,6 @@ fn fill_device(
         &mut flow_used[a..e],
         &mut content_used[a..e],
     )
-}
-
-// Device d's account, in numbers, into its place. Ruled out: a neighbour's number changed; destroyed for uncombusted.
-fn store_account(d: usize, a: Account, accounts: &mut [u64])
-    requires { ⌜ (d < devicesMost) × (length (a .outcomes) ≡ outcomeKinds) × (length (now accounts) ≡ devicesMost * accountSize) ⌝ }
-    ensures { λ _. ⌜ now (accounts .exit) ≡ put (now (accounts .entry)) (d * accountSize) (d * accountSize + accountSize) (numbersOf a) ⌝ }
-{
-    let at = d * ACCOUNT;
-    let times = a.outcomes;
-    let mut j = 0;
-    while j < OUTCOMES {
-        accounts[at + j] = times[j];
-        j += 1;
-    }
-    let litres = at + OUTCOMES;
-    accounts[litres] = a.methane;
-    accounts[litres + 1] = a.destroyed;
-    accounts[litres + 2] = a.uncombusted;
 }
 
 // The rows and accounts of all devices, device 0 first, and their sums. Ruled out: the first device done and the rest faked; a

@@ -5,7 +5,7 @@ use Rattle.balance.proofs.Laws.{thousand-times}
 use Rattle.balance.proofs.share.Statement.{statement}
 use Rattle.balance.proofs.share.Tie as tie
 
-product : (c : tie.Start) → c .args .q * c .args .thousandths ≤ 392403310272000
+product : (c : tie.Start) → c .args .q * c .args .thousandths ≤ 784806655680000
 product c = thousand-times (c .args .q) (c .args .thousandths) (c .pre .q-most) (c .pre .thousandths-most)
 
 mul-result : tie.Need-mul-result

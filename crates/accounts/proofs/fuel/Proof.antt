@@ -4,10 +4,10 @@ use mathlib.Core.Path.{refl}
 use native.Mathlib.Omega.{arith}
 use lib.ListN.{length}
 use Rattle.columns.specs.Series.{fuelOf, fuelNow}
-use Rattle.drainage.proofs.Burning.{Burning, line-most, sum-room, burning-more, burnt}
+use Rattle.accounts.proofs.Burning.{Burning, line-most, sum-room, burning-more, burnt}
 use borrow.Author.Needs.{needs}
-use Rattle.drainage.proofs.fuel.Statement.{statement}
-use Rattle.drainage.proofs.fuel.Tie as tie
+use Rattle.accounts.proofs.fuel.Statement.{statement}
+use Rattle.accounts.proofs.fuel.Tie as tie
 mod PlaceNames
 use PlaceNames.*
 

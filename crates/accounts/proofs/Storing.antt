@@ -12,10 +12,9 @@ use lib.ListN.{length, getD, take, drop, set, length-append, length-set}
 use lib.Seq.{drop-cons, drop-drop, set-at, length-take-le, take-suc, take-all}
 use Rattle.rows.specs.Rows.{put}
 use Rattle.protocol.specs.Ranges.{devicesMost}
-use Rattle.drainage_outcomes.specs.Outcomes.{outcomeKinds}
-use Rattle.drainage_device.specs.declared.Account.{Account}
-use Rattle.drainage_devices.specs.Devices.{accountSize, numbersOf}
-use Rattle.drainage_devices.proofs.Laws.{numbers-long}
+use Rattle.accounts.specs.declared.Account.{Account}
+use Rattle.accounts.specs.Account.{outcomeKinds, accountSize, numbersOf}
+use Rattle.accounts.proofs.Numbers.{numbers-long}
 
 -- the list with ys from `at` on
 abbrev over : List ℕ → ℕ → List ℕ → List ℕ

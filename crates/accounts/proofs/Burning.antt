@@ -10,7 +10,7 @@ use Rattle.rows.specs.Rows.{sumTo}
 use Rattle.rows.proofs.Sums.{sumTo-bound}
 use Rattle.balance.specs.Balance.{fuelMg}
 use Rattle.columns.specs.Series.{Fuel, Burnable}
-use Rattle.drainage.specs.Sheet.{fuelSum}
+use Rattle.accounts.specs.Sheet.{fuelSum}
 
 -- the mg of line k
 abbrev pub line : Fuel → ℕ → ℕ

@@ -1,12 +1,12 @@
--- `drainage_devices::store_account` meets its contract. The invariant: the first j outcomes are written.
+-- `accounts::store` meets its contract. The invariant: the first j outcomes are written.
 use Prim.Native.Nat.{_-_}
 use native.Mathlib.Omega.{arith}
 use lib.Dec.{lit<}
-use Rattle.drainage_devices.proofs.Storing.{Storing, storing-none, storing-more, storing-all, place-fits, litres-fits, inside, inside-1, inside-2}
-use Rattle.drainage_devices.proofs.Storing.{still-long}
+use Rattle.accounts.proofs.Storing.{Storing, storing-none, storing-more, storing-all, place-fits, litres-fits, inside, inside-1, inside-2}
+use Rattle.accounts.proofs.Storing.{still-long}
 use borrow.Author.Needs.{needs}
-use Rattle.drainage_devices.proofs.store_account.Statement.{statement}
-use Rattle.drainage_devices.proofs.store_account.Tie as tie
+use Rattle.accounts.proofs.store.Statement.{statement}
+use Rattle.accounts.proofs.store.Tie as tie
 mod PlaceNames
 use PlaceNames.*
 
@@ -81,8 +81,8 @@ same-length c = still-long (loop·same-length c .loop .inv) _ _ _ _ _ _
 returns : tie.Need-returns Inv-loop μ-loop
 returns c = storing-all (loop·returns c .loop .inv) (loop-test·returns c .loop-test .left)
 
-pub store-account-spec : {M : Type 1} → statement M
-store-account-spec =
+pub store-spec : {M : Type 1} → statement M
+store-spec =
     tie.close
     (tie.spec
     Inv-loop

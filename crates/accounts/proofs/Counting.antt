@@ -9,7 +9,7 @@ use lib.Dec.{eqb}
 use borrow.Author.Tests.{le-ltb, ne-eqb}
 use Rattle.rows.specs.Rows.{pick, either, sumTo, countOf, hit}
 use Rattle.rows.proofs.Sums.{sumTo-ext, sumTo-add, sumTo-swap, hit-other, hits-once}
-use Rattle.drainage_outcomes.specs.Outcomes.{counted}
+use Rattle.accounts.specs.Account.{counted}
 
 -- a sum over a + n entries
 sum-on : (a n : ℕ) (f : ℕ → ℕ) → sumTo (a + n) f ≡ sumTo a f + sumTo n (λ k. f (a + k))

@@ -1,15 +1,15 @@
 -- One account more in the sums, each within 64 bits.
-use Rattle.drainage_devices.proofs.Laws.{added-is, Sums, sums-fit}
+use Rattle.accounts.proofs.Adding.{added-is, Sums, sums-fit}
 use native.Mathlib.Omega.{arith}
 use lib.Dec.{lit<}
 use Rattle.balance.proofs.Laws.{carbon-le}
-use Rattle.drainage_devices.proofs.add.Statement.{statement}
-use Rattle.drainage_devices.proofs.add.Tie as tie
+use Rattle.accounts.proofs.add.Statement.{statement}
+use Rattle.accounts.proofs.add.Tie as tie
 mod PlaceNames
 use PlaceNames.*
 
 fit : (s : tie.Start) → Sums (s .args .t) (s .args .a)
-fit s = sums-fit (s .args .t) (s .args .a) (s .pre)
+fit s = sums-fit (s .args .t) (s .args .a) (s .pre .0) (s .pre .1)
 
 array-read-replaced : tie.Need-array-read-replaced
 array-read-replaced c = lit< tt
@@ -66,22 +66,22 @@ array-read-t35 : tie.Need-array-read-t35
 array-read-t35 c = lit< tt
 
 add-t32 : tie.Need-add-t32
-add-t32 c = omega (arith, start·add-t32 c .pre .count-most 0, start·add-t32 c .pre .count-most 1)
+add-t32 c = omega (arith, start·add-t32 c .pre .1 .count-most 0, start·add-t32 c .pre .1 .count-most 1)
 
 array-read-t31 : tie.Need-array-read-t31
 array-read-t31 c = lit< tt
 
 add-t28 : tie.Need-add-t28
-add-t28 c = omega (arith, start·add-t28 c .pre .count-most 0, start·add-t28 c .pre .count-most 1, start·add-t28 c .pre .count-most 2)
+add-t28 c = omega (arith, start·add-t28 c .pre .1 .count-most 0, start·add-t28 c .pre .1 .count-most 1, start·add-t28 c .pre .1 .count-most 2)
 
 add-t27 : tie.Need-add-t27
 add-t27 c =
     omega (
       arith,
-      start·add-t27 c .pre .count-most 0,
-      start·add-t27 c .pre .count-most 1,
-      start·add-t27 c .pre .count-most 2,
-      start·add-t27 c .pre .counted-room,
+      start·add-t27 c .pre .1 .count-most 0,
+      start·add-t27 c .pre .1 .count-most 1,
+      start·add-t27 c .pre .1 .count-most 2,
+      start·add-t27 c .pre .0 .counted-room,
     )
 
 add-t24 : tie.Need-add-t24
@@ -100,13 +100,13 @@ add-t16 : tie.Need-add-t16
 add-t16 c = fit (start·add-t16 c) .uncombusted
 
 methane-mg-requires : tie.Need-methane-mg-requires
-methane-mg-requires c κs = start·methane-mg-requires c .pre .methane-most
+methane-mg-requires c κs = start·methane-mg-requires c .pre .1 .methane-most
 
 add-t42 : tie.Need-add-t42
-add-t42 c = omega (arith, methane-mg·add-t42 c .methane-mg .ensures, start·add-t42 c .pre .methane-most, start·add-t42 c .pre .baseline-room)
+add-t42 c = omega (arith, methane-mg·add-t42 c .methane-mg .ensures, start·add-t42 c .pre .1 .methane-most, start·add-t42 c .pre .0 .baseline-room)
 
 carbon-dioxide-mg-requires : tie.Need-carbon-dioxide-mg-requires
-carbon-dioxide-mg-requires c κs = start·carbon-dioxide-mg-requires c .pre .destroyed-most
+carbon-dioxide-mg-requires c κs = start·carbon-dioxide-mg-requires c .pre .1 .destroyed-most
 
 add-t44 : tie.Need-add-t44
 add-t44 c =
@@ -114,15 +114,15 @@ add-t44 c =
       arith,
       carbon-dioxide-mg·add-t44 c .carbon-dioxide-mg .ensures,
       carbon-le (start·add-t44 c .args .a .destroyed),
-      start·add-t44 c .pre .destroyed-most,
-      start·add-t44 c .pre .co2-room,
+      start·add-t44 c .pre .1 .destroyed-most,
+      start·add-t44 c .pre .0 .co2-room,
     )
 
 methane-mg-requires-2 : tie.Need-methane-mg-requires-2
-methane-mg-requires-2 c κs = start·methane-mg-requires-2 c .pre .uncombusted-most
+methane-mg-requires-2 c κs = start·methane-mg-requires-2 c .pre .1 .uncombusted-most
 
 add-t46 : tie.Need-add-t46
-add-t46 c = omega (arith, methane-mg2·add-t46 c .methane-mg2 .ensures, start·add-t46 c .pre .uncombusted-most, start·add-t46 c .pre .uncombusted-mg-room)
+add-t46 c = omega (arith, methane-mg2·add-t46 c .methane-mg2 .ensures, start·add-t46 c .pre .1 .uncombusted-most, start·add-t46 c .pre .0 .uncombusted-mg-room)
 
 returns : tie.Need-returns
 returns c =

@@ -2,10 +2,10 @@
 use mir.Syntax.{w64}
 use mir.Facts.{toZ-ofZ}
 use mathlib.Core.Path.{_∙_}
-use Rattle.drainage.proofs.Settling.{sheet-of}
+use Rattle.accounts.proofs.Sheets.{sheet-of}
 use borrow.Author.Needs.{needs}
-use Rattle.drainage.proofs.sheet.Statement.{statement}
-use Rattle.drainage.proofs.sheet.Tie as tie
+use Rattle.accounts.proofs.sheet.Statement.{statement}
+use Rattle.accounts.proofs.sheet.Tie as tie
 
 add-debit : tie.Need-add-debit
 add-debit c = search needs

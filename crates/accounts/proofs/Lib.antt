@@ -1,0 +1,7 @@
+pub mod Adding
+pub mod Burning
+pub mod Counting
+pub mod Given
+pub mod Numbers
+pub mod Sheets
+pub mod Storing

@@ -1,0 +1,5 @@
+pub mod Account
+pub mod Totals
+pub mod Sheet
+pub mod Accounted
+pub mod Private
