@@ -147,15 +147,24 @@ module _ (devices : ℕ) (account : ℕ → Account) (few : devices ≤ 16) (mod
   room-for =
       record {
         counted-room =
-            omega (arith, sum-most (λ d. countIn (account d) 0 + countIn (account d) 1 + countIn (account d) 2) 105408
-            (λ d h. let c = modest d h .count-most in omega (arith, c 0, c 1, c 2)));
+            omega (
+              arith,
+              sum-most (λ d. countIn (account d) 0 + countIn (account d) 1 + countIn (account d) 2) 105408
+                  (λ d h. let c = modest d h .count-most in omega (arith, c 0, c 1, c 2)),
+            );
         replaced-room =
-            omega (arith, sum-most (λ d. countIn (account d) 1 + countIn (account d) 2) 70272
-            (λ d h. let c = modest d h .count-most in omega (arith, c 1, c 2)));
+            omega (
+              arith,
+              sum-most (λ d. countIn (account d) 1 + countIn (account d) 2) 70272
+                  (λ d h. let c = modest d h .count-most in omega (arith, c 1, c 2)),
+            );
         excluded-room =
-            omega (arith, sum-most (λ d. sumTo 7 (λ j. countIn (account d) (3 + j))) 245952
-            (λ d h. let z : sumTo 7 (λ j. countIn (account d) (3 + j)) ≤ 7 * 35136 =
-            sumTo-bound 7 35136 (λ j. countIn (account d) (3 + j)) (λ j y. modest d h .count-most (3 + j)) in omega arith));
+            omega (
+              arith,
+              sum-most (λ d. sumTo 7 (λ j. countIn (account d) (3 + j))) 245952
+                  (λ d h. let z : sumTo 7 (λ j. countIn (account d) (3 + j)) ≤ 7 * 35136 =
+                  sumTo-bound 7 35136 (λ j. countIn (account d) (3 + j)) (λ j y. modest d h .count-most (3 + j)) in omega arith),
+            );
         methane-room = omega (arith, sum-most (λ d. account d .methane) deviceMost (λ d h. modest d h .methane-most));
         destroyed-room = omega (arith, sum-most (λ d. account d .destroyed) deviceMost (λ d h. modest d h .destroyed-most));
         uncombusted-room = omega (arith, sum-most (λ d. account d .uncombusted) deviceMost (λ d h. modest d h .uncombusted-most));

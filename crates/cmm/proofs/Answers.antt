@@ -5,9 +5,9 @@ use mathlib.Core.List.{List}
 use native.Mathlib.Omega.{arith}
 use denote.Enum.Declared.{tagOf}
 use Rattle.figures.specs.declared.Figures.{Figures}
-use Rattle.drainage.specs.declared.Answer.{Answer}
-use Rattle.drainage.specs.declared.Answer.the-variants as Answer
-use Rattle.drainage.proofs.Answer as AnswerType
+use Rattle.accounts.specs.declared.Answer.{Answer}
+use Rattle.accounts.specs.declared.Answer.the-variants as Answer
+use Rattle.accounts.proofs.Answer as AnswerType
 use Rattle.sheet_text.specs.Write.{WriteRight}
 use Rattle.sheet_text.specs.declared.WriteAnswer.{WriteAnswer}
 use Rattle.sheet_text.specs.declared.ReadAnswer.{ReadAnswer}

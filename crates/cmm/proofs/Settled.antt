@@ -8,8 +8,8 @@ use Rattle.refusals.specs.Table.{toldBy}
 use Rattle.drainage_judge.specs.Call.{Call}
 use Rattle.drainage_devices.specs.Devices.{Results}
 use Rattle.figures.specs.declared.Figures.{Figures}
-use Rattle.drainage.specs.Promise.{toldIn}
-use Rattle.drainage.specs.declared.Answer.{Answer}
+use Rattle.accounts.specs.Sheet.{toldIn}
+use Rattle.accounts.specs.declared.Answer.{Answer}
 use Rattle.drainage.proofs.Settling.{settled-unique}
 use Rattle.sheet_text.specs.Write as Write
 use Rattle.sheet_text.specs.Read as Read

@@ -12,7 +12,7 @@ use Rattle.drainage_judge.specs.Call.{Call}
 use Rattle.drainage_judge.specs.Order.{judged}
 use Rattle.drainage_judge.proofs.Unrefused.{unrefused}
 use Rattle.figures.specs.declared.Figures.{Figures}
-use Rattle.drainage.specs.declared.Answer.the-variants.{Accepted}
+use Rattle.accounts.specs.declared.Answer.the-variants.{Accepted}
 use Rattle.drainage.specs.Sheet.{lentIn, figuresOf}
 use Rattle.drainage.specs.Promise.{answerBy, resultsBy, usedIn, Settled}
 use Rattle.drainage.proofs.Settling.{possible, tonnes-are, same-figures, never}

@@ -1,30 +1,35 @@
 -- From the verdict, the rows and the totals to what the call promises.
 -- Assumes nothing.
-use Prim.Native.Nat.{ℕ, _+_, _-_, _*_, _≤_, _<_}
+use Prim.Native.Nat.{ℕ, _+_, _*_, _≤_, _<_}
 use mathlib.Core.Path.{_≡_, refl, sym, ap, ap₂, _∙_, subst, subst₂}
-use mathlib.Core.Bool.{Bool, true, not}
+use mathlib.Core.Bool.{true}
 use native.Mathlib.Omega.{arith}
-use lib.Dec.{eqb}
 use lib.IntN.{ℤ, pos}
 use lib.ListN.{getD}
-use Rattle.rows.specs.Rows.{pick, either, sumTo, countOf, hit}
+use Rattle.rows.specs.Rows.{pick, sumTo}
 use Rattle.rows.proofs.Laws.{getD-join, getD-build, length-build, getD-cut}
-use Rattle.rows.proofs.Sums.{sumTo-ext, sumTo-add, sumTo-const}
+use Rattle.rows.proofs.Sums.{sumTo-ext}
 use Rattle.protocol.specs.Ranges.{kelvinOf, contentMost}
 use Rattle.volume.specs.Volume.{methaneLitres}
-use Rattle.drainage_outcomes.specs.Outcomes.{outcomeKinds, counted, litresFor}
-use Rattle.balance.specs.Balance.{destroyedOf, uncombustedOf, reductionOf, reductionAll, tonnesOf, creditsOf, Moderate}
-use Rattle.balance.proofs.Laws.{partition, partition-all, moderate}
+use Rattle.balance.specs.Balance.{baselineAll, carbonDioxideAll, uncombustedAll, reductionAll, Moderate}
+use Rattle.accounts.specs.declared.Answer.{Answer}
+use Rattle.accounts.specs.declared.Answer.the-variants.{Accepted, Refused}
+use Rattle.accounts.specs.declared.Totals.{Totals}
+use Rattle.accounts.specs.Account.{counted}
+use Rattle.accounts.specs.Totals.{countedIn, totalsOver}
+use Rattle.accounts.specs.Sheet.{fuelSum, figuresFrom, toldIn}
+use Rattle.accounts.specs.Accounted.{outcomeGiven, Accounted}
+use Rattle.accounts.proofs.Adding.{moderate}
+use Rattle.accounts.proofs.Given.{counted-in, accounted}
 use Rattle.drainage_exact.specs.Exact.{Possible, exactReduction, promised, reportedQ, reportedTonnes}
 use Rattle.fractions.specs.Fair.{Fair}
 use Rattle.drainage_exact.proofs.Demand3.{countedOf, countedAll, reported-of, demand-3-of}
-use Rattle.drainage_device.specs.Device.{intervalsOf, outcomeAt, flowUsedAt, contentUsedAt, litresAt, methaneOf}
-use Rattle.drainage_device.proofs.Laws.{counted-inside, outcome-few, counts-add-up}
-use Rattle.drainage_devices.specs.Devices.{recordsOf, Results, resultsOf, outcomePart, flowPart, contentPart}
-use Rattle.drainage_devices.specs.Totals.{countIn, countedIn, replacedIn, excludedIn, kindIn, litresIn, totalsOf, AllWritten}
-use Rattle.drainage_devices.specs.declared.Totals.{Totals}
-use Rattle.drainage_devices.proofs.Laws.{row-long, litres-most}
-use Rattle.drainage_devices.proofs.Given.{count-at, methane-at, destroyed-at, uncombusted-at}
+use Rattle.drainage_outcomes.specs.Outcomes.{litresFor}
+use Rattle.drainage_device.specs.Device.{intervalsOf, outcomeAt, flowUsedAt, contentUsedAt, litresAt, methaneOf, accountOf}
+use Rattle.drainage_device.proofs.Laws.{counted-inside}
+use Rattle.drainage_devices.specs.Devices.{recordsOf, accountIn, Results, resultsOf, outcomePart, flowPart, contentPart}
+use Rattle.drainage_devices.specs.Totals.{kindIn, litresIn, totalsOf, AllWritten}
+use Rattle.drainage_devices.proofs.Laws.{row-long, modest, counts}
 use Rattle.drainage_judge.specs.Call.{Call}
 use Rattle.refusals.specs.declared.Refusal.{Refusal}
 use Rattle.refusals.specs.declared.Verdict.{Verdict}
@@ -34,12 +39,8 @@ use Rattle.drainage_judge.specs.Order.{judged, stepsOf}
 use Rattle.drainage_judge.proofs.Laws.{judged-clean, judged-refused}
 use Rattle.drainage_judge.proofs.Unrefused.{Unrefused, unrefused}
 use Rattle.figures.specs.declared.Figures.{Figures}
-use Rattle.drainage.specs.declared.Answer.{Answer}
-use Rattle.drainage.specs.declared.Answer.the-variants.{Accepted, Refused}
-use Rattle.drainage.specs.Sheet.{lentIn, fuelSum, fuelIn, figuresFrom, figuresOf}
-use Rattle.drainage.specs.Promise.{answerBy, resultsBy, toldIn, outcomeGiven, countGiven, methaneGiven, destroyedGiven, uncombustedGiven}
-use Rattle.drainage.specs.Promise.{entriesWith, usedIn, Accounted, Settled}
-use Rattle.drainage.proofs.Counting.{sum-rows, row-counted, row-replaced, row-excluded}
+use Rattle.drainage.specs.Sheet.{lentIn, fuelIn, figuresOf}
+use Rattle.drainage.specs.Promise.{answerBy, resultsBy, usedIn, Settled}
 use Rattle.drainage.proofs.Sound.{sound}
 
 same-litres : {o o′ f f′ g g′ p p′ : ℕ} {t t′ : ℤ} → o ≡ o′ → f ≡ f′ → g ≡ g′ → t ≡ t′ → p ≡ p′
@@ -108,146 +109,31 @@ module _ (c : Call) (before : Results) (x : Unrefused c) where
       (λ k l. same-litres (outcome-at d k h l) (flow-at d k h l) (content-at d k h l) (temp-at d k h l) (press-at d k h l))
       ∙ ap (λ (n : ℕ). sumTo n (litresAt (recordsOf (lentIn c) d))) (sym (row-whole d h))
 
-  -- ---- counts
-
-  -- a device's count is that of its part of the outcome row
-  count-row : (d j : ℕ) → d < c .devices → countIn (lentIn c) d j ≡ countOf (c .intervals) (λ k. outcomeGiven after (d * c .intervals + k)) j
-  unfolding countIn
-  count-row d j h =
-      sumTo-ext (c .intervals) (λ k. hit (outcomeAt (recordsOf (lentIn c) d) k) j) (λ k. hit (outcomeGiven after (d * c .intervals + k)) j)
-      (λ k l. ap (λ (o : ℕ). hit o j) (sym (outcome-at d k h l)))
-
-  -- an outcome that is given is one of ten
-  given-few : (d k : ℕ) → d < c .devices → k < c .intervals → outcomeGiven after (d * c .intervals + k) < 10
-  given-few d k h l =
-      subst (λ (o : ℕ). o < 10) (sym (outcome-at d k h l))
-      (outcome-few (recordsOf (lentIn c) d) (sound c x .right d h) k (subst (λ (m : ℕ). k < m) (sym (row-whole d h)) l))
-
-  -- what a test counts in the whole row it counts in each device's part
-  by-rows : (test : ℕ → Bool) (g : ℕ → ℕ)
-      → ((d : ℕ) → d < c .devices → g d ≡ sumTo (c .intervals) (λ k. pick (test (outcomeGiven after (d * c .intervals + k))) 1 0))
-      → sumTo (c .devices) g ≡ entriesWith c after test
-  by-rows test g h =
-      sumTo-ext (c .devices) g (λ d. sumTo (c .intervals) (λ k. pick (test (outcomeGiven after (d * c .intervals + k))) 1 0)) h
-      ∙ sym (sum-rows (c .devices) (c .intervals) (λ k. pick (test (outcomeGiven after k)) 1 0))
-
-  counted-in : (d : ℕ) → d < c .devices
-      → countedIn (lentIn c) d ≡ sumTo (c .intervals) (λ k. pick (counted (outcomeGiven after (d * c .intervals + k))) 1 0)
-  unfolding countedIn
-  counted-in d h =
-      ap₂ _+_ (ap₂ _+_ (count-row d 0 h) (count-row d 1 h)) (count-row d 2 h)
-      ∙ sym (row-counted (c .intervals) (λ k. outcomeGiven after (d * c .intervals + k)))
-
-  counted-is : figuresOf c .counted ≡ entriesWith c after counted
-  unfolding figuresOf figuresFrom totalsOf
-  counted-is = by-rows counted (countedIn (lentIn c)) counted-in
-
-  replaced-is : figuresOf c .replaced ≡ entriesWith c after (λ o. either (eqb o 1) (eqb o 2))
-  unfolding figuresOf figuresFrom totalsOf replacedIn
-  replaced-is =
-      by-rows (λ o. either (eqb o 1) (eqb o 2)) (replacedIn (lentIn c))
-      (λ d h. ap₂ _+_ (count-row d 1 h) (count-row d 2 h) ∙ sym (row-replaced (c .intervals) (λ k. outcomeGiven after (d * c .intervals + k))))
-
-  excluded-is : figuresOf c .excluded ≡ entriesWith c after (λ o. not (counted o))
-  unfolding figuresOf figuresFrom totalsOf excludedIn
-  excluded-is =
-      by-rows (λ o. not (counted o)) (excludedIn (lentIn c))
-      (λ d h. sumTo-ext 7 (λ j. countIn (lentIn c) d (3 + j)) (λ j. countOf (c .intervals) (λ k. outcomeGiven after (d * c .intervals + k)) (3 + j))
-      (λ j z. count-row d (3 + j) h)
-      ∙ sym (row-excluded (c .intervals) (λ k. outcomeGiven after (d * c .intervals + k)) (λ k l. given-few d k h l)))
-
   -- ---- the tonnes
 
   counted-all : countedAll (usedIn c after) ≡ figuresOf c .counted
-  unfolding countedAll countedOf usedIn figuresOf figuresFrom totalsOf
+  unfolding countedAll countedOf usedIn figuresOf figuresFrom totalsOver resultsOf outcomePart
   counted-all =
-      sym (sumTo-ext (c .devices) (countedIn (lentIn c)) (λ d. sumTo (c .intervals) (λ k. pick (counted (outcomeGiven after (d * c .intervals + k))) 1 0))
-      counted-in)
+      sym (sumTo-ext (c .devices) (λ d. countedIn (accountIn (lentIn c) d))
+      (λ d. sumTo (c .intervals) (λ k. pick (counted (outcomeGiven (after .outcome) (d * c .intervals + k))) 1 0))
+      (counted-in (c .intervals) (c .devices) (λ d. outcomeAt (recordsOf (lentIn c) d)) (accountIn (lentIn c)) (counts (lentIn c) (c .devices) (sound c x))))
 
   pub tonnes-are : reportedTonnes (usedIn c after) ≡ figuresOf c .tonnes
-  unfolding usedIn fuelSum figuresOf figuresFrom totalsOf reductionAll
+  unfolding usedIn fuelSum figuresOf figuresFrom totalsOver accountOf litresIn recordsOf reductionAll baselineAll carbonDioxideAll uncombustedAll
   tonnes-are = reported-of (usedIn c after) (kindIn (lentIn c)) (litresIn (lentIn c)) (λ d h. refl) litres-at
 
   fair-call : Fair (exactReduction (usedIn c after)) (figuresOf c .tonnes) (promised (figuresOf c .counted) (figuresOf c .devices))
-  unfolding usedIn fuelSum figuresOf figuresFrom totalsOf reductionAll
+  unfolding usedIn fuelSum figuresOf figuresFrom totalsOver accountOf litresIn recordsOf reductionAll baselineAll carbonDioxideAll uncombustedAll
   fair-call =
       demand-3-of (usedIn c after) possible (kindIn (lentIn c)) (litresIn (lentIn c)) (figuresOf c .counted) (λ d h. refl) litres-at counted-all
 
-  -- ---- the accounts
+  -- ---- the rows, the accounts and the sheet
 
-  all-of : (d : ℕ) → d < c .devices → sumTo outcomeKinds (countIn (lentIn c) d) ≡ c .intervals
-  unfolding countIn
-  all-of d h =
-      subst (λ (n : ℕ). sumTo outcomeKinds (countOf n (outcomeAt (recordsOf (lentIn c) d))) ≡ n) (row-whole d h)
-      (counts-add-up (recordsOf (lentIn c) d) (sound c x .right d h))
-
-  counts-given : (d : ℕ) → d < c .devices → (j : ℕ) → j < outcomeKinds
-      → countGiven after d j ≡ countOf (c .intervals) (λ k. outcomeGiven after (d * c .intervals + k)) j
-  counts-given d h j l = count-at (lentIn c) (c .devices) before d h (sound c x) j l ∙ count-row d j h
-
-  counts-whole : (d : ℕ) → d < c .devices → sumTo outcomeKinds (countGiven after d) ≡ c .intervals
-  counts-whole d h =
-      sumTo-ext outcomeKinds (countGiven after d) (countIn (lentIn c) d) (λ j l. count-at (lentIn c) (c .devices) before d h (sound c x) j l)
-      ∙ all-of d h
-
-  litres-once : (d : ℕ) → d < c .devices → destroyedGiven after d + uncombustedGiven after d ≡ methaneGiven after d
-  litres-once d h =
-      ap₂ _+_ (destroyed-at (lentIn c) (c .devices) before d h) (uncombusted-at (lentIn c) (c .devices) before d h)
-      ∙ partition (kindIn (lentIn c) d) (litresIn (lentIn c) d)
-      ∙ sym (methane-at (lentIn c) (c .devices) before d h)
-
-  methane-is : figuresOf c .«methane_l» ≡ sumTo (c .devices) (methaneGiven after)
-  unfolding figuresOf figuresFrom totalsOf
-  methane-is = sumTo-ext (c .devices) (litresIn (lentIn c)) (methaneGiven after) (λ d h. sym (methane-at (lentIn c) (c .devices) before d h))
-
-  destroyed-is : figuresOf c .«destroyed_l» ≡ sumTo (c .devices) (destroyedGiven after)
-  unfolding figuresOf figuresFrom totalsOf
-  destroyed-is =
-      sumTo-ext (c .devices) (λ d. destroyedOf (kindIn (lentIn c) d) (litresIn (lentIn c) d)) (destroyedGiven after)
-      (λ d h. sym (destroyed-at (lentIn c) (c .devices) before d h))
-
-  uncombusted-is : figuresOf c .«uncombusted_l» ≡ sumTo (c .devices) (uncombustedGiven after)
-  unfolding figuresOf figuresFrom totalsOf
-  uncombusted-is =
-      sumTo-ext (c .devices) (λ d. uncombustedOf (kindIn (lentIn c) d) (litresIn (lentIn c) d)) (uncombustedGiven after)
-      (λ d h. sym (uncombusted-at (lentIn c) (c .devices) before d h))
-
-  -- ---- the sheet's sums
-
-  sheet-litres : figuresOf c .«destroyed_l» + figuresOf c .«uncombusted_l» ≡ figuresOf c .«methane_l»
-  unfolding figuresOf figuresFrom totalsOf
-  sheet-litres = partition-all (c .devices) (kindIn (lentIn c)) (litresIn (lentIn c))
-
-  counted-or-not : (d : ℕ) → d < c .devices → countedIn (lentIn c) d + excludedIn (lentIn c) d ≡ c .intervals
-  unfolding countedIn excludedIn
-  counted-or-not d h = regroup (countIn (lentIn c) d) (c .intervals) (all-of d h)
-    where
-      regroup : (f : ℕ → ℕ) (n : ℕ) → sumTo 10 f ≡ n → f 0 + f 1 + f 2 + sumTo 7 (λ j. f (3 + j)) ≡ n
-      regroup f n e = omega arith
-
-  sheet-counts : figuresOf c .counted + figuresOf c .excluded ≡ c .devices * c .intervals
-  unfolding figuresOf figuresFrom totalsOf
-  sheet-counts =
-      sym (sumTo-add (c .devices) (countedIn (lentIn c)) (excludedIn (lentIn c)))
-      ∙ sumTo-ext (c .devices) (λ d. countedIn (lentIn c) d + excludedIn (lentIn c) d) (λ d. c .intervals) counted-or-not
-      ∙ sumTo-const (c .devices) (c .intervals)
-
-  accounted : Accounted c after (figuresOf c)
-  accounted =
-      record {
-        sheet-counted = counted-is;
-        sheet-replaced = replaced-is;
-        sheet-excluded = excluded-is;
-        all-counted = sheet-counts;
-        counts = counts-given;
-        counts-add = counts-whole;
-        partition = litres-once;
-        sheet-partition = sheet-litres;
-        methane-sum = methane-is;
-        destroyed-sum = destroyed-is;
-        uncombusted-sum = uncombusted-is;
-        fair = fair-call;
-      }
+  accounted-call : Accounted (c .intervals) (c .devices) (after .outcome) (after .accounts) (figuresOf c)
+  unfolding figuresOf resultsOf outcomePart
+  accounted-call =
+      accounted (c .intervals) (c .devices) (λ d. outcomeAt (recordsOf (lentIn c) d)) (accountIn (lentIn c)) (counts (lentIn c) (c .devices) (sound c x))
+      (fuelIn c) (before .accounts)
 
 -- ---- the call
 
@@ -275,6 +161,7 @@ settled-refused c before r e =
       results = sym (ap (λ (v : Verdict). resultsBy v c before) e);
       told = told-by c (Refused r) (sym (ap (λ (v : Verdict). answerBy v c) e));
       accounted = λ f q. never r f q;
+      fair = λ f q. never r f q;
     }
 
 -- accepted: the figures, rows and accounts that the definitions give, and what holds of them
@@ -286,7 +173,12 @@ settled-accepted c before now e w =
       answer = sym (ap (λ (v : Verdict). answerBy v c) e);
       results = w ∙ sym (ap (λ (v : Verdict). resultsBy v c before) e);
       told = told-by c (Accepted (figuresOf c)) (sym (ap (λ (v : Verdict). answerBy v c) e));
-      accounted = λ f q. subst₂ (Accounted c) (sym w) (same-figures (figuresOf c) f q) (accounted c before (unrefused c e));
+      accounted = λ f q.
+          subst₂ (λ (s : Results) (g : Figures). Accounted (c .intervals) (c .devices) (s .outcome) (s .accounts) g) (sym w)
+          (same-figures (figuresOf c) f q) (accounted-call c before (unrefused c e));
+      fair = λ f q.
+          subst₂ (λ (s : Results) (g : Figures). Fair (exactReduction (usedIn c s)) (g .tonnes) (promised (g .counted) (g .devices))) (sym w)
+          (same-figures (figuresOf c) f q) (fair-call c before (unrefused c e));
     }
 
 -- Of every call: whoever shows that answer and results are those of the definitions has the whole promise, demand 3 with it.
@@ -308,17 +200,11 @@ pub settled-unique : (c : Call) (before one two : Results) (a b : Answer) → Se
 settled-unique c before one two a b x y = (x .answer ∙ sym (y .answer), x .results ∙ sym (y .results))
 
 -- the sums fit
-moderate-totals : (c : Call) → Unrefused c → (fuel : ℕ) → fuel ≤ 256000000000000000
-    → Moderate (totalsOf (lentIn c) (c .devices) .«baseline_mg»)
-    (totalsOf (lentIn c) (c .devices) .«co2_mg» + totalsOf (lentIn c) (c .devices) .«uncombusted_mg» + fuel)
-unfolding totalsOf
-moderate-totals c x fuel l =
-    moderate (c .devices) (kindIn (lentIn c)) (litresIn (lentIn c)) fuel (x .shape .devices-most) (λ d h. litres-most (lentIn c) (c .devices) (sound c x) d h) l
-
 pub moderate-call : (c : Call) → Unrefused c → (t : Totals) (fuel : ℕ) → t ≡ totalsOf (lentIn c) (c .devices) → fuel ≤ 256000000000000000
     → Moderate (t .«baseline_mg») (t .«co2_mg» + t .«uncombusted_mg» + fuel)
 moderate-call c x t fuel e l =
-    subst (λ (s : Totals). Moderate (s .«baseline_mg») (s .«co2_mg» + s .«uncombusted_mg» + fuel)) (sym e) (moderate-totals c x fuel l)
+    subst (λ (s : Totals). Moderate (s .«baseline_mg») (s .«co2_mg» + s .«uncombusted_mg» + fuel)) (sym e)
+    (moderate (c .devices) (accountIn (lentIn c)) (x .shape .devices-most) (modest (lentIn c) (c .devices) (sound c x)) fuel l)
 
 -- the sheet of the totals and the fuel is the call's
 pub sheet-is : (c : Call) (t : Totals) (fuel : ℕ) (f : Figures) → f ≡ figuresFrom (c .intervals) (c .devices) t fuel

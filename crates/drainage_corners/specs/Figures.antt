@@ -6,17 +6,17 @@ use mathlib.Core.List.{[], _∷_}
 use lib.IntN.{ℤ, pos, negsuc}
 use Rattle.figures.specs.declared.Figures.{Figures}
 use Rattle.volume.specs.Volume.{methaneLitres, methaneLitresIn, hundredthsOf, correctionDown}
-use Rattle.balance.specs.Balance.{destroyedOf, uncombustedOf, baselineMg, carbonDioxideMg, uncombustedMg, fuelMg, baselineAll, carbonDioxideAll}
-use Rattle.balance.specs.Balance.{uncombustedAll, reductionOf, tonnesOf, creditsOf}
+use Rattle.balance.specs.Balance.{destroyedOf, uncombustedOf, baselineMg, carbonDioxideMg, uncombustedMg, fuelMg, reductionOf, tonnesOf, creditsOf}
 use Rattle.drainage_window.specs.Window.{tallyOf, meanOf, limitOf, meets, greatestUpTo}
 use Rattle.drainage_drift.specs.Drift.{correctedAt, keptOr, corrected, stretchDrift, together}
 use Rattle.drainage_runs.specs.Runs.{gapStart, gapEnd, run, whole, usable}
 use Rattle.drainage_gaps.specs.Gaps.{classOf, windowValues, replacementOf, replacementAt}
 use Rattle.drainage_outcomes.specs.Outcomes.{outcomeOf, litresFor}
-use Rattle.drainage_device.specs.Device.{instrumentOf, correctedFlow, correctedContent, outcomeAt, valueAt, flowUsedAt, contentUsedAt, litresAt, methaneOf}
+use Rattle.drainage_device.specs.Device.{instrumentOf, correctedFlow, correctedContent, outcomeAt, valueAt, flowUsedAt, contentUsedAt, litresAt, methaneOf, accountOf}
 use Rattle.drainage_devices.specs.Devices.{recordsOf}
-use Rattle.drainage_devices.specs.Totals.{countIn, countedIn, replacedIn, excludedIn, litresIn, totalsOf}
-use Rattle.drainage.specs.Sheet.{fuelSum, figuresFrom, figuresOf}
+use Rattle.accounts.specs.Totals.{countedIn, replacedIn, excludedIn, totalsOver}
+use Rattle.accounts.specs.Sheet.{fuelSum, figuresFrom}
+use Rattle.drainage.specs.Sheet.{figuresOf}
 use Rattle.drainage_corners.specs.Calls.{worked, injected, stopped, gapped}
 
 -- one counted interval of 3,000,000 l: destroyed, uncombusted, mg, tonnes
@@ -69,10 +69,10 @@ sheets : (figuresOf worked ≡ burnt 2985000 15000 5475236250 210105000 70000000
     × (figuresOf (stopped (1 ∷ []) (1 ∷ [])) ≡ excluded 1 (negsuc 0) (negsuc 0))
     × (figuresOf (stopped (1000 ∷ []) (1000000 ∷ [])) ≡ excluded 1000000000 (negsuc 999999999) (negsuc 0))
     × (figuresOf (stopped (1000 ∷ 1 ∷ []) (1000000 ∷ 1 ∷ [])) ≡ excluded 1000000001 (negsuc 1000000000) (negsuc 1))
-unfolding figuresOf figuresFrom fuelSum totalsOf countedIn replacedIn excludedIn countIn litresIn recordsOf methaneOf litresAt litresFor methaneLitres methaneLitresIn hundredthsOf correctionDown outcomeAt outcomeOf flowUsedAt contentUsedAt valueAt correctedFlow correctedContent instrumentOf correctedAt keptOr corrected stretchDrift together destroyedOf uncombustedOf baselineMg carbonDioxideMg uncombustedMg fuelMg baselineAll carbonDioxideAll uncombustedAll reductionOf tonnesOf creditsOf
+unfolding figuresOf figuresFrom fuelSum totalsOver countedIn replacedIn excludedIn accountOf recordsOf methaneOf litresAt litresFor methaneLitres methaneLitresIn hundredthsOf correctionDown outcomeAt outcomeOf flowUsedAt contentUsedAt valueAt correctedFlow correctedContent instrumentOf correctedAt keptOr corrected stretchDrift together destroyedOf uncombustedOf baselineMg carbonDioxideMg uncombustedMg fuelMg reductionOf tonnesOf creditsOf
 sheets = (refl, refl, refl, refl, refl, refl)
 
 -- rule 11.3: of 33 intervals one is replaced and all are counted
 mended : (figuresOf (gapped 16) .counted ≡ 33) × (figuresOf (gapped 16) .replaced ≡ 1) × (figuresOf (gapped 16) .excluded ≡ 0)
-unfolding figuresOf figuresFrom totalsOf countedIn replacedIn excludedIn countIn recordsOf outcomeAt outcomeOf valueAt correctedFlow correctedContent instrumentOf correctedAt keptOr corrected stretchDrift together replacementAt replacementOf gapStart gapEnd run whole usable classOf tallyOf meanOf limitOf meets greatestUpTo windowValues
+unfolding figuresOf figuresFrom totalsOver countedIn replacedIn excludedIn accountOf recordsOf outcomeAt outcomeOf valueAt correctedFlow correctedContent instrumentOf correctedAt keptOr corrected stretchDrift together replacementAt replacementOf gapStart gapEnd run whole usable classOf tallyOf meanOf limitOf meets greatestUpTo windowValues
 mended = (refl, refl, refl)

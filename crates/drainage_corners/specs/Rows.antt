@@ -14,7 +14,7 @@ use Rattle.volume.specs.Volume.{methaneLitres, methaneLitresIn, hundredthsOf, c
 use Rattle.balance.specs.Balance.{destroyedOf, uncombustedOf}
 use Rattle.drainage_outcomes.specs.Outcomes.{outcomeOf, litresFor}
 use Rattle.drainage_device.specs.Device.{instrumentOf, correctedFlow, correctedContent, outcomeAt, valueAt, flowUsedAt, contentUsedAt, litresAt, methaneOf, accountOf}
-use Rattle.drainage_devices.specs.Devices.{recordsOf, outcomePart, flowPart, contentPart, accountPart, Results, resultsOf}
+use Rattle.drainage_devices.specs.Devices.{recordsOf, outcomePart, flowPart, contentPart, Results, resultsOf}
 use Rattle.drainage.specs.Sheet.{lentIn}
 use Rattle.drainage_corners.specs.Calls.{worked, checked, gapped}
 
@@ -30,7 +30,7 @@ measured : after worked
       content = 10000 ∷ [];
       accounts = (1 ∷ 0 ∷ 0 ∷ 0 ∷ 0 ∷ 0 ∷ 0 ∷ 0 ∷ 0 ∷ 0 ∷ 3000000 ∷ 2985000 ∷ 15000 ∷ []) ++ replicate 195 0;
     }
-unfolding resultsOf outcomePart flowPart contentPart accountPart accountOf methaneOf litresAt litresFor methaneLitres methaneLitresIn hundredthsOf correctionDown destroyedOf uncombustedOf recordsOf outcomeAt outcomeOf flowUsedAt contentUsedAt valueAt correctedFlow correctedContent instrumentOf correctedAt keptOr corrected stretchDrift together
+unfolding resultsOf outcomePart flowPart contentPart accountOf methaneOf litresAt litresFor methaneLitres methaneLitresIn hundredthsOf correctionDown destroyedOf uncombustedOf recordsOf outcomeAt outcomeOf flowUsedAt contentUsedAt valueAt correctedFlow correctedContent instrumentOf correctedAt keptOr corrected stretchDrift together
 measured = refl
 
 -- rule 6.4: checks at 0 and at N of one interval. Both failed: the greater drift counts (rule 6.5). One failed and one

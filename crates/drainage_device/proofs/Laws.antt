@@ -25,14 +25,15 @@ use Rattle.drainage_gaps.proofs.Laws.{Bounded, replacement-bounded}
 use Rattle.drainage_gaps.proofs.Filling.{filled-measured, filled-missing}
 use Rattle.volume.specs.Volume.{methaneLitres, litresMost, Inside}
 use Rattle.balance.specs.Balance.{destroyedOf, uncombustedOf, deviceMost}
-use Rattle.drainage_outcomes.specs.Outcomes.{outcomeKinds, outcomeOf, counted, usedFor, litresFor, heldOutcome, entryOf, entryAt, sumsOf, Held, Holds, ReadyAt}
+use Rattle.drainage_outcomes.specs.Outcomes.{outcomeOf, usedFor, litresFor, heldOutcome, entryOf, entryAt, sumsOf, Held, Holds, ReadyAt}
+use Rattle.accounts.specs.Account.{outcomeKinds, counted}
 use Rattle.drainage_outcomes.specs.Outcomes.{Finished}
 use Rattle.drainage_outcomes.specs.declared.Sums.{Sums}
 use Rattle.drainage_outcomes.proofs.Laws.{outcome-of-ten, methane-most, counted-used}
 use Rattle.balance.proofs.Laws.{partition}
 use Rattle.drainage_device.specs.Device.{Records, intervalsOf, instrumentOf, correctedFlow, correctedContent, replacedAs, outcomeAt, valueOf, valueAt}
 use Rattle.drainage_device.specs.Device.{flowUsedAt, contentUsedAt, litresAt, methaneOf, accountOf, Low, Right, Filled}
-use Rattle.drainage_device.specs.declared.Account.{Account}
+use Rattle.accounts.specs.declared.Account.{Account}
 use Rattle.rows.proofs.Truth.{clash}
 
 -- ---- one series

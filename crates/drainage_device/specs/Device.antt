@@ -13,9 +13,10 @@ use Rattle.columns.specs.Series.{Series, Checks, Long, ChecksLong, InRange}
 use Rattle.drainage_drift.specs.Drift.{Instrument, correctedAt, Ordered}
 use Rattle.drainage_runs.specs.Runs.{missingAt}
 use Rattle.drainage_gaps.specs.Gaps.{Replaced, replacementAt}
-use Rattle.drainage_outcomes.specs.Outcomes.{outcomeKinds, outcomeOf, usedFor, litresFor}
+use Rattle.drainage_outcomes.specs.Outcomes.{outcomeOf, usedFor, litresFor}
+use Rattle.accounts.specs.Account.{outcomeKinds}
 use Rattle.balance.specs.Balance.{destroyedOf, uncombustedOf}
-use Rattle.drainage_device.specs.declared.Account.{Account}
+use Rattle.accounts.specs.declared.Account.{Account}
 
 -- one device's records: its rows of the five series, its two check counts, flow instrument first, its 64 places for
 -- positions and for drifts, and its kind

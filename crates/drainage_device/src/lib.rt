@@ -10,17 +10,9 @@ ghost use Rattle.drainage_drift.specs.Drift.{Ordered, correctedAt};
 ghost use Rattle.drainage_runs.specs.Runs.{missingAt};
 ghost use Rattle.drainage_gaps.specs.Private.{filledAt};
 ghost use Rattle.drainage_device.specs.Device.{Right, Filled, Low};
-use drainage_outcomes::OUTCOMES;
+use accounts::Account;
 use protocol::CHECKS;
 use protocol::DEVICE_CHECKS;
-
-// A device's account: how many of its intervals have each outcome, and its litres.
-pub struct Account {
-    pub outcomes: [u64; OUTCOMES],
-    pub methane: u64,
-    pub destroyed: u64,
-    pub uncombusted: u64,
-}
 
 // One series: drift taken out, then each gap replaced. Ruled out: gaps replaced before drift is corrected; drift taken out
 // of a replacement.

@@ -1,4 +1,2 @@
 pub mod Laws
 pub mod Loop
-pub mod Storing
-pub mod Given

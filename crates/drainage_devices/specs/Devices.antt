@@ -1,15 +1,15 @@
 -- Each device's own part of what is lent, and the rows joined again.
 -- Assumes nothing.
-use Prim.Native.Nat.{ℕ, _+_, _*_, _≤_, _<_}
+use Prim.Native.Nat.{ℕ, _*_, _≤_, _<_}
 use mathlib.Core.Path.{_≡_}
-use mathlib.Core.List.{List, [], _∷_, _++_}
-use lib.ListN.{length, getD, drop}
+use mathlib.Core.List.{List}
+use lib.ListN.{length, getD}
 use Rattle.protocol.specs.Ranges.{intervalsMost, devicesMost}
 use Rattle.rows.specs.Rows.{build, join}
 use Rattle.columns.specs.Series.{Series, Checks, Long, ChecksLong, seriesPart, checksPart}
-use Rattle.drainage_outcomes.specs.Outcomes.{outcomeKinds}
+use Rattle.accounts.specs.Account.{accountsOf}
 use Rattle.drainage_device.specs.Device.{Records, Right, outcomeAt, flowUsedAt, contentUsedAt, accountOf}
-use Rattle.drainage_device.specs.declared.Account.{Account}
+use Rattle.accounts.specs.declared.Account.{Account}
 
 -- the records of all devices, device 0 first (rules 3.3 and 3.12)
 pub record Lent : Type 0 where
@@ -34,15 +34,6 @@ pub record Results : Type 0 where
   pub content : List ℕ
   pub accounts : List ℕ
 
--- a device's account as numbers: how often each outcome comes (rule 8.6), then the litres of methane, those destroyed and
--- those left uncombusted (rules 9.3 to 9.5)
-abbrev pub numbersOf : Account → List ℕ
-numbersOf a = a .outcomes ++ (a .methane ∷ a .destroyed ∷ a .uncombusted ∷ [])
-
--- how many numbers that is
-abbrev pub accountSize : ℕ
-accountSize = outcomeKinds + 3
-
 -- one device's part of each
 unfoldable pub outcomePart : Lent → ℕ → List ℕ
 outcomePart l d = build (l .intervals) (outcomeAt (recordsOf l d))
@@ -53,8 +44,8 @@ flowPart l d = build (l .intervals) (flowUsedAt (recordsOf l d))
 unfoldable pub contentPart : Lent → ℕ → List ℕ
 contentPart l d = build (l .intervals) (contentUsedAt (recordsOf l d))
 
-unfoldable pub accountPart : Lent → ℕ → List ℕ
-accountPart l d = numbersOf (accountOf (recordsOf l d))
+abbrev pub accountIn : Lent → ℕ → Account
+accountIn l d = accountOf (recordsOf l d)
 
 -- rule 8.5: every entry of the rows is written, device 0 first; of the accounts those of the devices that there are, and what
 -- stands behind them stays
@@ -64,7 +55,7 @@ resultsOf l devices before =
       outcome = join devices (outcomePart l);
       flow = join devices (flowPart l);
       content = join devices (contentPart l);
-      accounts = join devices (accountPart l) ++ drop (devices * accountSize) (before .accounts);
+      accounts = accountsOf devices (accountIn l) (before .accounts);
     }
 
 -- what the refusals leave of what is lent

@@ -2,21 +2,15 @@
 ghost use Prim.Native.Nat.{ℕ, _+_, _*_, _≤_, _<_};
 ghost use mathlib.Core.Path.{_≡_};
 ghost use lib.ListN.{length};
-ghost use Rattle.rows.specs.Rows.{put};
 ghost use Rattle.protocol.specs.Ranges.{devicesMost};
 ghost use Rattle.columns.specs.Series.{seriesNow, checksNow, seriesAt, checksAt};
-ghost use Rattle.drainage_outcomes.specs.Outcomes.{outcomeKinds};
-ghost use Rattle.drainage_devices.specs.Devices.{Sound, accountSize, numbersOf};
+ghost use Rattle.accounts.specs.Account.{accountSize};
+ghost use Rattle.drainage_devices.specs.Devices.{Sound};
 ghost use Rattle.drainage_devices.specs.Totals.{AllWritten};
-ghost use Rattle.drainage_devices.specs.Private.{Written, added, Room};
-use drainage_device::Account;
-use drainage_outcomes::OUTCOMES;
+ghost use Rattle.drainage_devices.specs.Private.{Written};
+use accounts::Account;
+use accounts::Totals;
 use protocol::DEVICE_CHECKS;
-
-// How many numbers a device's account is written in, its outcomes and three sums of litres, and those of all devices.
-pub const ACCOUNT: usize = 13;
-
-pub const ACCOUNTS: usize = 208;
 
 // Device d's part of each row is lent on to the function that fills one device's row. Ruled out: a part that starts in the
 // neighbour's row; a neighbour's entry changed.
@@ -100,17 +94,7 @@ pub fn fill_rows(
         (record { outcome = now (outcome .exit); flow = now («flow_used» .exit); content = now («content_used» .exit); accounts = now (accounts .exit) })
         r ⌝ }
 {
-    let mut t = Totals {
-        counted: 0,
-        replaced: 0,
-        excluded: 0,
-        methane: 0,
-        destroyed: 0,
-        uncombusted: 0,
-        baseline_mg: 0,
-        co2_mg: 0,
-        uncombusted_mg: 0,
-    };
+    let mut t = accounts::none();
     let mut d = 0;
     while d < devices {
         let a = fill_device(
@@ -130,8 +114,8 @@ pub fn fill_rows(
             flow_used,
             content_used,
         );
-        store_account(d, a, accounts);
-        t = add(t, a);
+        accounts::store(d, a, accounts);
+        t = accounts::add(t, a);
         d += 1;
     }
     t

@@ -19,7 +19,8 @@ use Rattle.volume.proofs.Laws.{methane-litres-most, no-flow}
 use Rattle.drainage_runs.specs.Runs.{tooLong, notWhole}
 use Rattle.drainage_runs.specs.Private.{excluding}
 use Rattle.drainage_outcomes.specs.declared.Sums.{Sums}
-use Rattle.drainage_outcomes.specs.Outcomes.{outcomeKinds, outcomeOf, allMeasured, counted, litresFor, heldOutcome, entryOf, entryAt, sumsOf, Held}
+use Rattle.drainage_outcomes.specs.Outcomes.{outcomeOf, allMeasured, litresFor, heldOutcome, entryOf, entryAt, sumsOf, Held}
+use Rattle.accounts.specs.Account.{outcomeKinds, counted}
 use Rattle.drainage_outcomes.specs.Outcomes.{Holds, Ready, ReadyAt, Finished}
 use Rattle.rows.proofs.Truth.{clash}
 

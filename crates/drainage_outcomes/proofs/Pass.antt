@@ -17,12 +17,13 @@ use lib.Seq.{drop-cons, getD-at, getD-set-same, getD-set-other, set-getD, ext-ge
 use Rattle.rows.specs.Rows.{pick, build, sumTo, countOf, hit}
 use Rattle.rows.proofs.Laws.{build-step, build-done, length-build, getD-build, getD-inside}
 use Rattle.rows.proofs.Sums.{hit-same, hit-other, sumTo-bound}
-use Rattle.protocol.specs.Ranges.{mark, contentMost}
+use Rattle.protocol.specs.Ranges.{mark, ppmMost}
 use Rattle.columns.specs.Series.{Within}
 use Rattle.columns.proofs.Laws.{within}
 use Rattle.volume.specs.Volume.{methaneLitres, Inside, litresMost}
 use Rattle.drainage_outcomes.specs.declared.Entry.{Entry}
-use Rattle.drainage_outcomes.specs.Outcomes.{outcomeKinds, allMeasured, entryOf, entryAt, sumsOf, Held, Ready, ReadyAt, Finished}
+use Rattle.drainage_outcomes.specs.Outcomes.{allMeasured, entryOf, entryAt, sumsOf, Held, Ready, ReadyAt, Finished}
+use Rattle.accounts.specs.Account.{outcomeKinds}
 use Rattle.drainage_outcomes.proofs.Laws.{outcomeFor, measured-outcome, counted-inside, counted-entry, outcome-of-ten, litres-of-entry, methane-to}
 
 pub record Going (h : Held) (n : ℕ) (old o f c counts : List ℕ) (methane i : ℕ) : Type 0 where
@@ -85,12 +86,12 @@ module _ {h : Held} {n : ℕ} {old o f c counts : List ℕ} {methane i : ℕ} (x
         (getD f i 0) (getD c i 0)
         (sym q ∙ m)
 
-    pub measured-inside : (u : ℤ) → u ≡ t → Inside (getD f i 0) u (getD (h .series .press) i 0) × (getD c i 0 ≤ contentMost)
+    pub measured-inside : (u : ℤ) → u ≡ t → Inside (getD f i 0) u (getD (h .series .press) i 0) × (getD c i 0 ≤ ppmMost)
     measured-inside u w =
-        subst (λ (z : ℤ). Inside (getD f i 0) z (getD (h .series .press) i 0) × (getD c i 0 ≤ contentMost)) (sym w)
-        (counted-inside (getD (h .series .flow) i 0) (getD (h .series .content) i 0) t (getD (h .series .press) i 0) (getD (h .series .status) i 0) (getD f i 0)
-        (getD c i 0)
-        (reads-ready t e) (subst (λ (k : ℕ). k < 3) none (let y : 0 < 3 = omega arith in y)))
+        let y = counted-inside (getD (h .series .flow) i 0) (getD (h .series .content) i 0) t (getD (h .series .press) i 0) (getD (h .series .status) i 0)
+        (getD f i 0) (getD c i 0)
+        (reads-ready t e) (subst (λ (k : ℕ). k < 3) none (let y : 0 < 3 = omega arith in y)) in
+        (subst (λ (z : ℤ). Inside (getD f i 0) z (getD (h .series .press) i 0)) (sym w) (y .0), omega (arith, y .1))
 
     pub measured-entry : (u : ℤ) → u ≡ t → (litres : ℕ) → litres ≡ methaneLitres (getD f i 0) (getD c i 0) u (getD (h .series .press) i 0)
         → record { outcome = 0; flow = getD f i 0; content = getD c i 0; litres = litres } ≡ entryAt h i

@@ -11,14 +11,11 @@ use Rattle.rows.specs.Rows.{pick, both, either, build, sumTo, countOf}
 use Rattle.protocol.specs.Ranges.{intervalsMost, mark, tempMissing, pressMissing, tempRight, pressRight, flowMost, contentMost}
 use Rattle.columns.specs.Series.{Series, Long}
 use Rattle.volume.specs.Volume.{methaneLitres}
+use Rattle.accounts.specs.Account.{outcomeKinds, counted}
 use Rattle.drainage_runs.specs.Runs.{tooLong, notWhole}
 use Rattle.drainage_runs.specs.Private.{excluding}
 use Rattle.drainage_outcomes.specs.declared.Entry.{Entry}
 use Rattle.drainage_outcomes.specs.declared.Sums.{Sums}
-
--- how many outcomes there are, from 0 (rule 8.1)
-abbrev pub outcomeKinds : ℕ
-outcomeKinds = 10
 
 -- Rule 8.1: the first line that applies, from top to bottom. `lacking` is that temperature or pressure is missing. `byFlow` is what a
 -- missing flow comes to: 1 where it is replaced, or tooLong or notWhole; `byContent` what a missing CH4 content does, 2 or these.
@@ -40,10 +37,6 @@ allMeasured flow content temp press status =
     (either (eqb status 3)
     (either (either (tempMissing temp) (pressMissing press))
     (either (eqb flow mark) (eqb content mark)))))
-
--- rule 8.2: outcomes 0, 1 and 2 are counted, the others exclude the interval
-abbrev pub counted : ℕ → Bool
-counted outcome = ltb outcome 3
 
 -- rule 8.4: the value of a counted interval, 0 of an excluded one
 abbrev pub usedFor : ℕ → ℕ → ℕ

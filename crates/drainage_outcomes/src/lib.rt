@@ -18,11 +18,9 @@ ghost use Rattle.drainage_outcomes.specs.Outcomes.{
   ReadyAt,
   Finished,
 };
+use accounts::OUTCOMES;
 use drainage_runs::EXCLUDING;
 use protocol::MISSING;
-
-// How many outcomes there are.
-pub const OUTCOMES: usize = 10;
 
 // One interval as recorded.
 pub struct Readings {

@@ -23,7 +23,7 @@ use Rattle.drainage_judge.specs.Order.{judged}
 use Rattle.steps.proofs.Clear.{within-most}
 use Rattle.drainage.specs.Promise.{answerBy, Settled}
 use Rattle.drainage.proofs.Settling.{settled-call}
-use Rattle.drainage.specs.declared.Answer.{Answer}
+use Rattle.accounts.specs.declared.Answer.{Answer}
 use Rattle.drainage_record_form.specs.Field as Field
 use Rattle.drainage_record_form.specs.Field.{Field}
 use Rattle.drainage_record_form.specs.Plan.{Line, lineIs}

@@ -23,8 +23,8 @@ use Rattle.sheet_text.specs.declared.WriteAnswer.the-variants as WriteAnswer
 use denote.Enum.Declared.{tagOf}
 use Rattle.sheet_text.proofs.WriteAnswer as WriteAnswerType
 use Rattle.figures.specs.declared.Figures.{Figures}
-use Rattle.drainage.specs.declared.Answer.{Answer}
-use Rattle.drainage.specs.declared.Answer.the-variants as Answer
+use Rattle.accounts.specs.declared.Answer.{Answer}
+use Rattle.accounts.specs.declared.Answer.the-variants as Answer
 use Rattle.refusals.specs.declared.Refusal.{Refusal}
 use Rattle.refusals.specs.declared.Refusal.the-variants as Refusal
 use Rattle.refusals.specs.declared.Told.{Told}
@@ -33,7 +33,8 @@ use Rattle.columns.specs.Series.{seriesTake, checksTake, fuelTake}
 use Rattle.drainage_judge.specs.Call.{Call}
 use Rattle.drainage_judge.specs.Order.{judged}
 use Rattle.protocol.specs.Ranges.{devicesMost}
-use Rattle.drainage_devices.specs.Devices.{Results, accountSize}
+use Rattle.accounts.specs.Account.{accountSize}
+use Rattle.drainage_devices.specs.Devices.{Results}
 use Rattle.drainage.specs.Promise.{Settled, answerBy, resultsBy}
 use Rattle.drainage_record_form.specs.Rows.{Rows, lesser}
 use Rattle.drainage_record.specs.declared.Header.{Header}

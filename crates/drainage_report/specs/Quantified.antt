@@ -8,9 +8,10 @@ use Rattle.protocol.specs.Ranges.{intervalsMost, devicesMost}
 use Rattle.columns.specs.Series.{FuelRoom, ChecksRoom, Room, seriesTake, checksTake, fuelTake}
 use Rattle.drainage_judge.specs.Call.{Call}
 use Rattle.drainage_judge.specs.Order.{judged}
-use Rattle.drainage_devices.specs.Devices.{Results, accountSize}
+use Rattle.accounts.specs.Account.{accountSize}
+use Rattle.drainage_devices.specs.Devices.{Results}
 use Rattle.drainage.specs.Promise.{answerBy, resultsBy}
-use Rattle.drainage.specs.declared.Answer.{Answer}
+use Rattle.accounts.specs.declared.Answer.{Answer}
 use Rattle.drainage_record_form.specs.Rows.{Rows, lesser}
 use Rattle.drainage_record.specs.declared.Header.{Header}
 

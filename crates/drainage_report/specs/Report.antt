@@ -17,8 +17,8 @@ use Rattle.protocol.specs.Ranges.{devicesMost, deviceChecks, fuelsMost}
 use Rattle.columns.specs.Series as Series
 use Rattle.columns.specs.Series.{Series, checksOf, fuelOf}
 use Rattle.drainage.specs.Promise.{Settled}
-use Rattle.drainage.specs.declared.Answer.{Answer}
-use Rattle.drainage.specs.declared.Answer.the-variants as Answer
+use Rattle.accounts.specs.declared.Answer.{Answer}
+use Rattle.accounts.specs.declared.Answer.the-variants as Answer
 use Rattle.drainage_record_form.specs.Rows.{Rows}
 use Rattle.drainage_record.specs.Read.{ReadRight}
 use Rattle.drainage_record.specs.declared.ReadAnswer.{ReadAnswer}

@@ -3,3 +3,4 @@ pub mod Laws
 pub mod Sums
 pub mod Scan
 pub mod Fill
+pub mod Joined

@@ -3,7 +3,8 @@
 use native.Mathlib.Omega.{arith}
 use Rattle.columns.specs.Series.{seriesNow, checksNow}
 use Rattle.drainage_devices.specs.Devices.{Lent, recordsOf}
-use Rattle.drainage_devices.proofs.Laws.{cells, part-end, Places, places-of, parts-right, rows-kept, rows-written}
+use Rattle.columns.proofs.Laws.{cells, part-end}
+use Rattle.drainage_devices.proofs.Laws.{Places, places-of, parts-right, rows-kept, rows-written}
 use Rattle.drainage_devices.proofs.fill_device.Statement.{statement}
 use Rattle.drainage_devices.proofs.fill_device.Tie as tie
 mod PlaceNames

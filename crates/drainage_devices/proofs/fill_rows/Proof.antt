@@ -3,7 +3,8 @@ use Prim.Native.Nat.{_*_, _-_}
 use mathlib.Core.Path.{sym, _∙_}
 use native.Mathlib.Omega.{arith}
 use Rattle.columns.specs.Series.{seriesOf, checksOf}
-use Rattle.drainage_devices.proofs.Loop.{Going, going-start, going-on, going-room, going-place, going-done, totals-none}
+use Rattle.accounts.proofs.Adding.{totals-none}
+use Rattle.drainage_devices.proofs.Loop.{Going, going-start, going-on, going-room, going-place, going-done}
 use Rattle.drainage_devices.proofs.fill_rows.Statement.{statement}
 use Rattle.drainage_devices.proofs.fill_rows.Tie as tie
 mod PlaceNames
@@ -19,21 +20,24 @@ abbrev μ-loop : tie.MeasureT-loop
 μ-loop devices n kinds counts positions drifts flow content temp press status outcome₀ flow-used₀ content-used₀ accounts₀ t₀ d₀ outcome flow-used content-used accounts t d =
     devices - d
 
+none-requires : tie.Need-none-requires Inv-loop μ-loop
+none-requires c κs = tt
+
 loop-holds : tie.Need-loop-holds Inv-loop μ-loop
 loop-holds c =
     going-start _ _ _ _ (start·loop-holds c .pre .0) (start·loop-holds c .pre .1) (start·loop-holds c .pre .2) (start·loop-holds c .pre .3)
     (start·loop-holds c .pre .4)
-    (totals-none _)
+    (none·loop-holds c .none .ensures ∙ totals-none _)
 
 fill-device-requires : tie.Need-fill-device-requires Inv-loop μ-loop
 fill-device-requires c κs =
     let v = loop·fill-device-requires c .loop .inv in
     (v .sound, loop-test·fill-device-requires c .loop-test .taken, v .outcomes .long, v .flows .long, v .contents .long)
 
-store-account-requires : tie.Need-store-account-requires Inv-loop μ-loop
-store-account-requires c κs =
-    going-place _ _ _ _ _ _ (loop·store-account-requires c .loop .inv) (fill-device·store-account-requires c .fill-device .result)
-    (loop-test·store-account-requires c .loop-test .taken) (fill-device·store-account-requires c .fill-device .ensures .account)
+store-requires : tie.Need-store-requires Inv-loop μ-loop
+store-requires c κs =
+    going-place _ _ _ _ _ _ (loop·store-requires c .loop .inv) (fill-device·store-requires c .fill-device .result)
+    (loop-test·store-requires c .loop-test .taken) (fill-device·store-requires c .fill-device .ensures .account)
 
 add-requires : tie.Need-add-requires Inv-loop μ-loop
 add-requires c κs =
@@ -49,7 +53,7 @@ loop-less c = omega (arith, loop-test·loop-less c .loop-test .taken)
 loop-again : tie.Need-loop-again Inv-loop μ-loop
 loop-again c =
     going-on _ _ _ _ _ _ (loop·loop-again c .loop .inv) _ _ (fill-device·loop-again c .fill-device .result) (loop-test·loop-again c .loop-test .taken)
-    (fill-device·loop-again c .fill-device .ensures) (store-account·loop-again c .store-account .ensures) (c .add .ensures)
+    (fill-device·loop-again c .fill-device .ensures) (store·loop-again c .store .ensures) (c .add .ensures)
 
 same-length : tie.Need-same-length Inv-loop μ-loop
 same-length c = loop·same-length c .loop .inv .outcomes .long ∙ sym (start·same-length c .pre .1)
@@ -61,7 +65,7 @@ same-length-3 : tie.Need-same-length-3 Inv-loop μ-loop
 same-length-3 c = loop·same-length-3 c .loop .inv .contents .long ∙ sym (start·same-length-3 c .pre .3)
 
 same-length-4 : tie.Need-same-length-4 Inv-loop μ-loop
-same-length-4 c = loop·same-length-4 c .loop .inv .accounts .long ∙ sym (start·same-length-4 c .pre .4)
+same-length-4 c = loop·same-length-4 c .loop .inv .booked .accounts .long ∙ sym (start·same-length-4 c .pre .4)
 
 returns : tie.Need-returns Inv-loop μ-loop
 returns c = going-done _ _ _ _ _ _ (loop·returns c .loop .inv) (c .loop-test .left)
@@ -72,9 +76,10 @@ fill-rows-spec =
     (tie.spec
     Inv-loop
     μ-loop
+    none-requires
     loop-holds
     fill-device-requires
-    store-account-requires
+    store-requires
     add-requires
     add-d
     loop-less

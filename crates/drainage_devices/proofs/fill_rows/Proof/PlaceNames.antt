@@ -2,8 +2,8 @@
 use Rattle.drainage_devices.proofs.fill_rows.Tie as tie
 
 module _ {Inv-loop : tie.InvT-loop} {μ-loop : tie.MeasureT-loop} where
-  abbrev pub start·loop-holds : tie.After-slice-known4 Inv-loop μ-loop → tie.Start Inv-loop μ-loop
-  start·loop-holds c = c .before .before .before .before .before .before .before .before .before .before .before
+  abbrev pub start·loop-holds : tie.After-none Inv-loop μ-loop → tie.Start Inv-loop μ-loop
+  start·loop-holds c = c .before .before .before .before .before .before .before .before .before .before .before .before
 
   abbrev pub start·same-length : tie.After-loop Inv-loop μ-loop → tie.Start Inv-loop μ-loop
   start·same-length c = start·loop-holds (c .before .before)
@@ -16,6 +16,9 @@ module _ {Inv-loop : tie.InvT-loop} {μ-loop : tie.MeasureT-loop} where
 
   abbrev pub start·same-length-4 : tie.After-loop Inv-loop μ-loop → tie.Start Inv-loop μ-loop
   start·same-length-4 c = start·same-length c
+
+  abbrev pub none·loop-holds : tie.After-none Inv-loop μ-loop → tie.After-none Inv-loop μ-loop
+  none·loop-holds c = c
 
   abbrev pub loop·same-length : tie.After-loop Inv-loop μ-loop → tie.At-loop Inv-loop μ-loop
   loop·same-length c = c .before
@@ -35,11 +38,11 @@ module _ {Inv-loop : tie.InvT-loop} {μ-loop : tie.MeasureT-loop} where
   abbrev pub loop·fill-device-requires : tie.After-fill-device-arg3 Inv-loop μ-loop → tie.At-loop Inv-loop μ-loop
   loop·fill-device-requires c = c .before .before .before .before
 
-  abbrev pub loop·store-account-requires : tie.After-store-account-arg Inv-loop μ-loop → tie.At-loop Inv-loop μ-loop
-  loop·store-account-requires c = loop·fill-device-requires (c .before .before .before .before .before .before .before .before)
+  abbrev pub loop·store-requires : tie.After-store-arg Inv-loop μ-loop → tie.At-loop Inv-loop μ-loop
+  loop·store-requires c = loop·fill-device-requires (c .before .before .before .before .before .before .before .before)
 
   abbrev pub loop·add-requires : tie.After-slice-known8 Inv-loop μ-loop → tie.At-loop Inv-loop μ-loop
-  loop·add-requires c = loop·store-account-requires (c .before .before .before)
+  loop·add-requires c = loop·store-requires (c .before .before .before)
 
   abbrev pub loop·add-d : tie.After-add Inv-loop μ-loop → tie.At-loop Inv-loop μ-loop
   loop·add-d c = loop·add-requires (c .before)
@@ -50,11 +53,11 @@ module _ {Inv-loop : tie.InvT-loop} {μ-loop : tie.MeasureT-loop} where
   abbrev pub loop-test·fill-device-requires : tie.After-fill-device-arg3 Inv-loop μ-loop → tie.In-loop Inv-loop μ-loop
   loop-test·fill-device-requires c = c .before .before .before
 
-  abbrev pub loop-test·store-account-requires : tie.After-store-account-arg Inv-loop μ-loop → tie.In-loop Inv-loop μ-loop
-  loop-test·store-account-requires c = loop-test·fill-device-requires (c .before .before .before .before .before .before .before .before)
+  abbrev pub loop-test·store-requires : tie.After-store-arg Inv-loop μ-loop → tie.In-loop Inv-loop μ-loop
+  loop-test·store-requires c = loop-test·fill-device-requires (c .before .before .before .before .before .before .before .before)
 
   abbrev pub loop-test·add-requires : tie.After-slice-known8 Inv-loop μ-loop → tie.In-loop Inv-loop μ-loop
-  loop-test·add-requires c = loop-test·store-account-requires (c .before .before .before)
+  loop-test·add-requires c = loop-test·store-requires (c .before .before .before)
 
   abbrev pub loop-test·add-d : tie.After-add Inv-loop μ-loop → tie.In-loop Inv-loop μ-loop
   loop-test·add-d c = loop-test·add-requires (c .before)
@@ -65,24 +68,25 @@ module _ {Inv-loop : tie.InvT-loop} {μ-loop : tie.MeasureT-loop} where
   abbrev pub loop-test·loop-again : tie.After-add Inv-loop μ-loop → tie.In-loop Inv-loop μ-loop
   loop-test·loop-again c = loop-test·add-d c
 
-  abbrev pub fill-device·store-account-requires : tie.After-store-account-arg Inv-loop μ-loop → tie.After-fill-device Inv-loop μ-loop
-  fill-device·store-account-requires c = c .before .before .before .before .before .before .before
+  abbrev pub fill-device·store-requires : tie.After-store-arg Inv-loop μ-loop → tie.After-fill-device Inv-loop μ-loop
+  fill-device·store-requires c = c .before .before .before .before .before .before .before
 
   abbrev pub fill-device·add-requires : tie.After-slice-known8 Inv-loop μ-loop → tie.After-fill-device Inv-loop μ-loop
-  fill-device·add-requires c = fill-device·store-account-requires (c .before .before .before)
+  fill-device·add-requires c = fill-device·store-requires (c .before .before .before)
 
   abbrev pub fill-device·loop-again : tie.After-add Inv-loop μ-loop → tie.After-fill-device Inv-loop μ-loop
   fill-device·loop-again c = fill-device·add-requires (c .before)
 
-  abbrev pub store-account·loop-again : tie.After-add Inv-loop μ-loop → tie.After-store-account Inv-loop μ-loop
-  store-account·loop-again c = c .before .before .before
+  abbrev pub store·loop-again : tie.After-add Inv-loop μ-loop → tie.After-store Inv-loop μ-loop
+  store·loop-again c = c .before .before .before
 
 -- What the code binds and asks, in order, as it was when this was generated:
 --   After-shared-slice-known/shared-slice-known After-shared-slice-known2/shared-slice-known2 After-shared-slice-known3/shared-slice-known3
 --   After-shared-slice-known4/shared-slice-known4 After-shared-slice-known5/shared-slice-known5 After-shared-slice-known6/shared-slice-known6
 --   After-shared-slice-known7/shared-slice-known7 After-slice-known/slice-known After-slice-known2/slice-known2 After-slice-known3/slice-known3
---   After-slice-known4/slice-known4 ?loop-holds At-loop/loop In-loop/loop-test After-loop/loop-test After-fill-device-arg/fill-device-arg
---   After-fill-device-arg2/fill-device-arg2 After-fill-device-arg3/fill-device-arg3 ?fill-device-requires After-fill-device/fill-device After-outcome/outcome
---   After-slice-known5/slice-known5 After-flow-used/flow-used After-slice-known6/slice-known6 After-content-used/content-used After-slice-known7/slice-known7
---   After-store-account-arg/store-account-arg ?store-account-requires After-store-account/store-account After-accounts/accounts After-slice-known8/slice-known8
---   ?add-requires After-add/add ?add-d ?loop-less ?loop-again ?same-length ?same-length-2 ?same-length-3 ?same-length-4 ?returns
+--   After-slice-known4/slice-known4 ?none-requires After-none/none ?loop-holds At-loop/loop In-loop/loop-test After-loop/loop-test
+--   After-fill-device-arg/fill-device-arg After-fill-device-arg2/fill-device-arg2 After-fill-device-arg3/fill-device-arg3 ?fill-device-requires
+--   After-fill-device/fill-device After-outcome/outcome After-slice-known5/slice-known5 After-flow-used/flow-used After-slice-known6/slice-known6
+--   After-content-used/content-used After-slice-known7/slice-known7 After-store-arg/store-arg ?store-requires After-store/store After-accounts/accounts
+--   After-slice-known8/slice-known8 ?add-requires After-add/add ?add-d ?loop-less ?loop-again ?same-length ?same-length-2 ?same-length-3 ?same-length-4
+--   ?returns
