@@ -15,7 +15,7 @@ use mir.Facts.{toZ-ofZ, toZ-pos}
 use Rattle.rows.specs.Rows.{sumTo}
 use Rattle.rows.proofs.Sums.{sumTo-ext, sumTo-add, sumTo-bound}
 use Rattle.protocol.specs.Kinds.{thousandthsOf}
-use Rattle.protocol.specs.Numbers.{methaneMg}
+use Rattle.protocol.specs.Numbers.{methaneMg, carbonMg}
 use Rattle.protocol.proofs.KindLaws.{thousandths-most}
 use Rattle.protocol.specs.Rounding.{ceilDiv}
 use Rattle.balance.specs.Balance.{destroyedOf, uncombustedOf, baselineMg, carbonDioxideMg, uncombustedMg, overDevices, baselineAll}
@@ -62,6 +62,15 @@ share-up kind q k r e f =
     (g, omega (arith, uncombusted-le kind q))
 
 -- ---- mg
+
+-- CO2 is rounded up, by at most three quarters of a mg
+pub carbon-low : (d : ℕ) → carbonMg * d ≤ 4 * carbonDioxideMg d
+unfolding carbonDioxideMg
+carbon-low d = omega arith
+
+pub carbon-high : (d : ℕ) → 4 * carbonDioxideMg d ≤ carbonMg * d + 3
+unfolding carbonDioxideMg
+carbon-high d = omega arith
 
 pub carbon-le : (d : ℕ) → carbonDioxideMg d ≤ 1835 * d
 unfolding carbonDioxideMg

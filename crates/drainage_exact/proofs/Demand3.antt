@@ -1,8 +1,8 @@
 -- Demand 3: the reported tonnes are never above the exact reduction, and short of it by less than a tonne and the
 -- promised grams. First over an interval's loss, the factor of unburnt methane and the grams, then with those of rule 10.4.
 -- Assumes nothing.
-use Prim.Native.Nat.{ℕ, _+_, _*_, _/_, _≤_, _<_}
-use mathlib.Core.Path.{_≡_, refl, ap, ap₂, _∙_, subst, subst₂}
+use Prim.Native.Nat.{ℕ, _+_, _*_, _≤_, _<_}
+use mathlib.Core.Path.{_≡_, refl, ap, ap₂, _∙_, subst₂}
 use native.Mathlib.Nat.{mul-pos, mul-comm}
 use native.Mathlib.Omega.{arith}
 use lib.IntN.{ℤ, pos}
@@ -12,15 +12,14 @@ use Rattle.protocol.specs.Numbers.{methaneMg}
 use Rattle.protocol.specs.Ranges.{kelvinOf, contentMost}
 use Rattle.volume.specs.Volume.{correctionOver, correctionUnder, correctionDown, hundredthsFactor, hundredthsOf, methaneUnder, methaneLitresIn, methaneLitres}
 use Rattle.balance.specs.Balance.{destroyedOf, uncombustedOf, baselineMg, carbonDioxideMg, uncombustedMg, fuelMg, baselineAll, carbonDioxideAll}
-use Rattle.balance.specs.Balance.{uncombustedAll, reductionOf, reductionAll, tonnesOf}
-use Rattle.protocol.proofs.Integers.{is-sub}
+use Rattle.balance.specs.Balance.{uncombustedAll, equation1, reductionAll, tonnesOf}
 use Rattle.balance.proofs.Laws.{reduction-ext}
-use Rattle.fractions.specs.Fraction.{Fraction, over, asFraction, _-ᶠ_, _*ᶠ_, sumᶠ}
+use Rattle.fractions.specs.Fraction.{Fraction, asFraction, _-ᶠ_, sumᶠ}
 use Rattle.drainage_exact.specs.Exact.{Used, Possible, exactHundredths, exactMethane, exactQ, exactDeviceMg, exactReduction, reportedQ, reportedTonnes}
 use Rattle.drainage_exact.specs.Exact.{intervalMg, deviceMg, promised}
 use Rattle.fractions.specs.Fair.{Fair}
-use Rattle.fractions.proofs.Near.{Near, near-all, near-minus, near-fair}
-use Rattle.fractions.proofs.Close.{Close, close-row, close-interval}
+use Rattle.fractions.proofs.Near.{fair-devices}
+use Rattle.fractions.proofs.Close.{RoundedDown, close-row, down-interval}
 use Rattle.drainage_exact.proofs.Device.{Covers, device-near}
 
 -- ---- over loss, factor and grams
@@ -31,36 +30,20 @@ grams devices interval device i =
     sumTo-add devices (λ d. interval * i d) (λ d. device)
     ∙ ap₂ _+_ (sumTo-mul devices interval i) (sumTo-const devices device ∙ mul-comm devices device)
 
-module _ {u w interval device : ℕ} (v : Covers u w interval device) (devices : ℕ) (kind : ℕ → ℕ) (x : ℕ → Fraction) (q i : ℕ → ℕ) (fuel : ℕ)
-    (close : (d : ℕ) → d < devices → Close u (x d) (q d) (i d)) where
-  near : Near
-      (sumᶠ devices (λ d. exactDeviceMg w (kind d) (x d)) -ᶠ asFraction (pos fuel))
-      (sumTo devices (λ d. w * q d))
-      (sumTo devices (λ d. carbonDioxideMg (destroyedOf (kind d) (q d))) + sumTo devices (λ d. w * uncombustedOf (kind d) (q d)) + fuel)
-      (interval * sumTo devices i + device * devices)
-  near =
-      subst (λ (e : ℕ). Near whole-of (sumTo devices (λ d. w * q d)) debit e) (grams devices interval device i)
-      (subst (λ (b : ℕ). Near whole-of (sumTo devices (λ d. w * q d)) (b + fuel) (sumTo devices (λ d. interval * i d + device)))
-      (sumTo-add devices (λ d. carbonDioxideMg (destroyedOf (kind d) (q d))) (λ d. w * uncombustedOf (kind d) (q d)))
-      (near-minus fuel
-      (near-all devices (λ d. exactDeviceMg w (kind d) (x d)) (λ d. w * q d)
-      (λ d. carbonDioxideMg (destroyedOf (kind d) (q d)) + w * uncombustedOf (kind d) (q d)) (λ d. interval * i d + device)
-      (λ d h. device-near v (kind d) (close d h)))))
-    where
-      whole-of : Fraction
-      whole-of = sumᶠ devices (λ d. exactDeviceMg w (kind d) (x d)) -ᶠ asFraction (pos fuel)
-
-      debit : ℕ
-      debit = sumTo devices (λ d. carbonDioxideMg (destroyedOf (kind d) (q d))) + sumTo devices (λ d. w * uncombustedOf (kind d) (q d)) + fuel
-
-  pub fair : Fair
-      (sumᶠ devices (λ d. exactDeviceMg w (kind d) (x d)) -ᶠ asFraction (pos fuel))
-      (tonnesOf (reductionOf
-      (sumTo devices (λ d. w * q d))
-      (sumTo devices (λ d. carbonDioxideMg (destroyedOf (kind d) (q d))) + sumTo devices (λ d. w * uncombustedOf (kind d) (q d)) + fuel)))
-      (interval * sumTo devices i + device * devices)
-  unfolding reductionOf
-  fair = near-fair _ near (is-sub _ _)
+pub fair : {u w interval device : ℕ} → Covers u w interval device
+    → (devices : ℕ) (kind : ℕ → ℕ) (x : ℕ → Fraction) (q i : ℕ → ℕ) (fuel : ℕ) → ((d : ℕ) → d < devices → RoundedDown u (x d) (q d) (i d))
+    → Fair
+    (sumᶠ devices (λ d. exactDeviceMg w (kind d) (x d)) -ᶠ asFraction (pos fuel))
+    (tonnesOf (equation1
+    (sumTo devices (λ d. w * q d))
+    (sumTo devices (λ d. carbonDioxideMg (destroyedOf (kind d) (q d))))
+    (sumTo devices (λ d. w * uncombustedOf (kind d) (q d)))
+    fuel))
+    (interval * sumTo devices i + device * devices)
+fair {u} {w} {interval} {device} v devices kind x q i fuel close =
+    fair-devices devices (λ d. exactDeviceMg w (kind d) (x d)) (λ d. w * q d) (λ d. carbonDioxideMg (destroyedOf (kind d) (q d)))
+    (λ d. w * uncombustedOf (kind d) (q d)) (λ d. interval * i d + device) fuel (grams devices interval device i)
+    (λ d h. device-near v (kind d) (close d h))
 
 -- ---- the protocol's numbers
 
@@ -77,16 +60,16 @@ covers =
     record { unit = omega arith; saves = 48691; is-saves = refl; per-interval = omega arith; per-device = omega arith }
 
 interval-close : (flow content : ℕ) (temp : ℤ) (press : ℕ) → 0 < kelvinOf temp → content ≤ contentMost
-    → Close 100 (exactMethane flow content temp press) (methaneLitres flow content temp press) 1
+    → RoundedDown 100 (exactMethane flow content temp press) (methaneLitres flow content temp press) 1
 unfolding exactMethane exactHundredths methaneLitres methaneLitresIn hundredthsOf correctionDown
 interval-close flow content temp press h l =
-    close-interval 100 methaneUnder (correctionOver hundredthsFactor flow press) (correctionUnder temp) content
+    down-interval 100 methaneUnder (correctionOver hundredthsFactor flow press) (correctionUnder temp) content
     (omega arith) (mul-pos h (let z : 0 < 101325 = omega arith in z)) (omega (arith, l))
 
-q-close : (u : Used) → Possible u → (d : ℕ) → d < u .devices → Close 100 (exactQ u d) (reportedQ u d) (countedOf u d)
+q-close : (u : Used) → Possible u → (d : ℕ) → d < u .devices → RoundedDown 100 (exactQ u d) (reportedQ u d) (countedOf u d)
 unfolding exactQ reportedQ countedOf
 q-close u s d h =
-    close-row 100 (u .intervals) (u .counted d)
+    close-row (u .intervals) (u .counted d)
     (λ k. exactMethane (u .flow d k) (u .content d k) (u .temp d k) (u .press d k))
     (λ k. methaneLitres (u .flow d k) (u .content d k) (u .temp d k) (u .press d k))
     (λ k l c. interval-close (u .flow d k) (u .content d k) (u .temp d k) (u .press d k) (s .warm d k h l c) (s .content-most d k h l c))

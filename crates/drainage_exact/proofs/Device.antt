@@ -9,13 +9,13 @@ use Rattle.protocol.specs.Kinds.{thousandthsOf}
 use Rattle.protocol.specs.Numbers.{carbonMg}
 use Rattle.protocol.proofs.KindLaws.{thousandths-most}
 use Rattle.balance.specs.Balance.{destroyedOf, uncombustedOf, carbonDioxideMg}
-use Rattle.balance.proofs.Laws.{partition}
+use Rattle.balance.proofs.Laws.{partition, carbon-low, carbon-high}
 use Rattle.protocol.proofs.Integers.{is-pos, is-minus, is-times}
 use Rattle.fractions.specs.Fraction.{Fraction, over}
 use Rattle.drainage_exact.specs.Exact.{exactDestroyed, exactUncombusted, exactDeviceMg}
 use Rattle.fractions.specs.Worth.{exactUnburntMg, exactCarbonMg}
 use Rattle.fractions.proofs.Near.{Near, near-is}
-use Rattle.fractions.proofs.Close.{Close}
+use Rattle.fractions.proofs.Close.{RoundedDown, close-is, not-above}
 
 -- The mg promised for an interval and for a device cover what is lost, where an interval loses at most 1 + 1/u litre and
 -- a litre unburnt is w mg: a litre destroyed saves w - 7,337/4 mg, which is `saves` quarters.
@@ -40,14 +40,14 @@ saved-low w v c k p n q d g s f1 f2 f3 =
 
 -- the exact litres' worth, above that of the whole litres by what the intervals lose
 lost : (u v k p n q i interval : ℕ) → 0 < u → k ≤ 995 → v * 995 * (1 + u) ≤ 4000 * u * interval
-    → u * p ≤ (u * q + i * (1 + u)) * n → v * (p * k) ≤ v * (n * (q * k)) + 4000 * (interval * (i * n))
+    → u * p ≤ u * (q * n) + i * (1 + u) * n → v * (p * k) ≤ v * (n * (q * k)) + 4000 * (interval * (i * n))
 lost u v k p n q i interval z t h f =
     le-of-mul-le-mul-left
     (le-trans (first f) (le-trans (second (v * (i * (1 + u) * n)) t) (third h)))
     z
   where
-    first : u * p ≤ (u * q + i * (1 + u)) * n → u * (v * (p * k)) ≤ u * (v * (n * (q * k))) + v * (i * (1 + u) * n) * k
-    first f = let g : v * k * (u * p) ≤ v * k * ((u * q + i * (1 + u)) * n) = mul-le-mul-left (v * k) f in omega arith
+    first : u * p ≤ u * (q * n) + i * (1 + u) * n → u * (v * (p * k)) ≤ u * (v * (n * (q * k))) + v * (i * (1 + u) * n) * k
+    first f = let g : v * k * (u * p) ≤ v * k * (u * (q * n) + i * (1 + u) * n) = mul-le-mul-left (v * k) f in omega arith
 
     second : (m : ℕ) → k ≤ 995 → u * (v * (n * (q * k))) + m * k ≤ u * (v * (n * (q * k))) + m * 995
     second m t = add-le-add (le-refl (u * (v * (n * (q * k))))) (mul-le-mul-left m t)
@@ -63,7 +63,7 @@ lost u v k p n q i interval z t h f =
 -- an upper bound of what the device loses, interval * i + device mg in all
 saved-high : (u v k p n q d i interval device : ℕ) → 0 < u → k ≤ 995
     → v * 995 * (1 + u) ≤ 4000 * u * interval → 999 * v + 3000 ≤ 4000 * device
-    → q * k ≤ 1000 * d + 999 → u * p ≤ (u * q + i * (1 + u)) * n
+    → q * k ≤ 1000 * d + 999 → u * p ≤ u * (q * n) + i * (1 + u) * n
     → v * (p * k) + 3000 * n ≤ v * (d * (1000 * n)) + (interval * i + device) * (4000 * n)
 saved-high u v k p n q d i interval device z t h l f1 f3 =
     let g1 = lost u v k p n q i interval z t h f3 in
@@ -81,7 +81,7 @@ low w v c k r p n q d e g s t a f1 f2 f3 =
 
 high : (u w v c k r p n q d e g i interval device : ℕ) → 0 < u → v + c ≡ 4 * w → k + r ≡ 1000 → d + e ≡ q → k ≤ 995
     → v * 995 * (1 + u) ≤ 4000 * u * interval → 999 * v + 3000 ≤ 4000 * device
-    → q * k ≤ 1000 * d + 999 → 4 * g ≤ c * d + 3 → u * p ≤ (u * q + i * (1 + u)) * n
+    → q * k ≤ 1000 * d + 999 → 4 * g ≤ c * d + 3 → u * p ≤ u * (q * n) + i * (1 + u) * n
     → 4000 * (w * p) + (g + w * e) * (4000 * n) ≤ (w * q + (interval * i + device)) * (4000 * n) + (c * (p * k) + 4 * (w * (p * r)))
 high u w v c k r p n q d e g i interval device z s t a k-most h l f1 f2 f3 =
     let x = saved-high u v k p n q d i interval device z k-most h l f1 f3 in
@@ -130,27 +130,19 @@ destroyed-high : (kind q : ℕ) → q * thousandthsOf kind ≤ 1000 * destroyedO
 unfolding destroyedOf
 destroyed-high kind q = omega arith
 
-carbon-low : (d : ℕ) → carbonMg * d ≤ 4 * carbonDioxideMg d
-unfolding carbonDioxideMg
-carbon-low d = omega arith
-
-carbon-high : (d : ℕ) → 4 * carbonDioxideMg d ≤ carbonMg * d + 3
-unfolding carbonDioxideMg
-carbon-high d = omega arith
-
 rest : (kind : ℕ) → thousandthsOf kind + (1000 - thousandthsOf kind) ≡ 1000
 rest kind = let h : thousandthsOf kind ≤ 995 = thousandths-most kind in omega arith
 
 -- a device's exact reduction is never below the reported one, and above it by the promised mg at most
-pub device-near : {u w interval device : ℕ} → Covers u w interval device → (kind : ℕ) {x : Fraction} {q i : ℕ} → Close u x q i
+pub device-near : {u w interval device : ℕ} → Covers u w interval device → (kind : ℕ) {x : Fraction} {q i : ℕ} → RoundedDown u x q i
     → Near (exactDeviceMg w kind x) (w * q) (carbonDioxideMg (destroyedOf kind q) + w * uncombustedOf kind q) (interval * i + device)
 device-near {u} {w} {interval} {device} v kind {x} {q} {i} c =
     subst
     (λ (y : Fraction). Near (exactDeviceMg w kind y) (w * q) (carbonDioxideMg (destroyedOf kind q) + w * uncombustedOf kind q) (interval * i + device))
-    (sym same)
+    (sym (close-is c))
     (device-at w kind (c .top) (x .den) (c .above-zero)
     (low w (v .saves) carbonMg k r (c .top) (x .den) q d (uncombustedOf kind q) (carbonDioxideMg d)
-    (v .is-saves) (rest kind) (partition kind q) (destroyed-low kind q) (carbon-low d) (c .low))
+    (v .is-saves) (rest kind) (partition kind q) (destroyed-low kind q) (carbon-low d) (not-above (v .unit) c))
     (high u w (v .saves) carbonMg k r (c .top) (x .den) q d (uncombustedOf kind q) (carbonDioxideMg d) i interval device
     (v .unit) (v .is-saves) (rest kind) (partition kind q) (thousandths-most kind) (v .per-interval) (v .per-device)
     (destroyed-high kind q) (carbon-high d) (c .high)))
@@ -163,6 +155,3 @@ device-near {u} {w} {interval} {device} v kind {x} {q} {i} c =
 
     d : ℕ
     d = destroyedOf kind q
-
-    same : x ≡ over (c .top) (x .den)
-    same = λ j. record { num = c .is-top j; den = x .den }

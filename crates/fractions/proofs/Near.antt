@@ -1,13 +1,15 @@
 -- A fraction between two whole numbers: x lies from a - b up to a - b + e, for naturals a, b and e. Sums and differences
 -- of such fractions, and the tonnes that follow from one.
 -- Assumes nothing.
-use Prim.Native.Nat.{ℕ, zero, suc, _+_, _-_, _*_, _≤_, _<_}
+use Prim.Native.Nat.{ℕ, zero, suc, _+_, _*_, _≤_, _<_}
+use mathlib.Core.Path.{_≡_, subst₂}
 use native.Mathlib.Nat.{mul-le-mul-right, mul-pos, le-step, lt-suc-self}
 use native.Mathlib.Omega.{arith}
 use lib.IntN.{ℤ, pos, _+ℤ_, _*ℤ_}
 use Rattle.rows.specs.Rows.{sumTo}
-use Rattle.balance.specs.Balance.{tonne, tonnesOf}
-use Rattle.protocol.proofs.Integers.{Is, Floor, above, below, is-self, is-pos, is-add, is-minus, is-times, is-le, is-lt}
+use Rattle.rows.proofs.Sums.{sumTo-add}
+use Rattle.balance.specs.Balance.{reductionOf, equation1, tonne, tonnesOf}
+use Rattle.protocol.proofs.Integers.{Is, Floor, above, below, is-self, is-pos, is-add, is-sub, is-minus, is-times, is-le, is-lt}
 use Rattle.balance.proofs.Laws.{tonnes-floor}
 use Rattle.fractions.specs.Fraction.{Fraction, asFraction, _+ᶠ_, _-ᶠ_, sumᶠ}
 use Rattle.fractions.specs.Fair.{Fair}
@@ -103,3 +105,17 @@ near-fair {x} {a} {b} {e} z p i =
 
     f : Floor (tonnesOf z) a b tonne
     f = tonnes-floor z i
+
+-- devices that are each near their baseline less CO2 and uncombusted, less the fuel: the tonnes of equation 1 over their sums
+pub fair-devices : (devices : ℕ) (x : ℕ → Fraction) (baseline co2 uncombusted e : ℕ → ℕ) (fuel : ℕ) {distance : ℕ}
+    → sumTo devices e ≡ distance → ((d : ℕ) → d < devices → Near (x d) (baseline d) (co2 d + uncombusted d) (e d))
+    → Fair (sumᶠ devices x -ᶠ asFraction (pos fuel))
+    (tonnesOf (equation1 (sumTo devices baseline) (sumTo devices co2) (sumTo devices uncombusted) fuel))
+    distance
+unfolding reductionOf
+fair-devices devices x baseline co2 uncombusted e fuel same h =
+    near-fair _
+    (near-minus fuel
+    (subst₂ (λ (b e : ℕ). Near (sumᶠ devices x) (sumTo devices baseline) b e) (sumTo-add devices co2 uncombusted) same
+    (near-all devices x baseline (λ d. co2 d + uncombusted d) e h)))
+    (is-sub _ _)
