@@ -1,2 +1,4 @@
 pub mod Call
 pub mod Order
+pub mod Shape
+pub mod Examples
