@@ -2,17 +2,15 @@
 -- Assumes nothing.
 use Prim.Native.Nat.{ℕ, _+_, _*_, _≤_, _<_}
 use mathlib.Core.Path.{_≡_, sym, ap, _∙_, subst}
-use mathlib.Core.Bool.{Bool, true, false}
 use mathlib.Core.List.{List, [], _∷_}
 use native.Mathlib.Nat.{le-trans, lt-of-not-le}
 use native.Mathlib.Decide.{decLe}
 use native.Mathlib.Omega.{arith}
-use lib.Dec.{eqb}
 use lib.ListN.{length, getD, drop, length-append, List·getD-append, List·getD-eq-default}
 use lib.Seq.{getD-append-add}
-use Rattle.rows.specs.Rows.{pick, build, countOf, hit, join}
+use Rattle.rows.specs.Rows.{build, countOf, join}
 use Rattle.rows.proofs.Laws.{length-build, getD-build, length-join, getD-join, room}
-use Rattle.rows.proofs.Sums.{sumTo-bound}
+use Rattle.rows.proofs.Sums.{count-most}
 use Rattle.protocol.specs.Ranges.{intervalsMost}
 use Rattle.accounts.specs.declared.Account.{Account}
 use Rattle.accounts.specs.Account.{outcomeKinds, countIn, numbersOf, accountSize, accountsOf}
@@ -60,16 +58,6 @@ module _ (devices : ℕ) (account : ℕ → Account) (ten : (d : ℕ) → d < de
   uncombusted-at = number-at (outcomeKinds + 2) (omega arith) ∙ litres-number (account d) (ten d h) 2
 
 -- ---- counts of at most a year's intervals
-
-hit-most : (x j : ℕ) → hit x j ≤ 1
-hit-most x j = go (eqb x j)
-  where
-    go : (b : Bool) → pick b 1 0 ≤ 1
-    go true = omega arith
-    go false = omega arith
-
-pub count-most : (n : ℕ) (f : ℕ → ℕ) (j : ℕ) → countOf n f j ≤ n
-count-most n f j = let h : countOf n f j ≤ n * 1 = sumTo-bound n 1 (λ k. hit (f k) j) (λ k z. hit-most (f k) j) in omega arith
 
 pub built-most : (n : ℕ) (f : ℕ → ℕ) → n ≤ intervalsMost → (j : ℕ) → getD (build outcomeKinds (countOf n f)) j 0 ≤ intervalsMost
 built-most n f h j = elim (decLe outcomeKinds j) [ yes z ↦ past z | no z ↦ inside (lt-of-not-le z) ]

@@ -14,6 +14,7 @@ use Rattle.rows.specs.Rows.{pick, both, either, sumTo, countOf}
 use Rattle.rows.proofs.Laws.{both-true, length-build, getD-build}
 use Rattle.rows.proofs.Sums.{sumTo-bound, sumTo-ext, counts-add}
 use Rattle.protocol.specs.Ranges.{mark, tempMissing, pressMissing, tempRight, pressRight, between, kelvinOf, flowMost, contentMost}
+use Rattle.protocol.proofs.RangeLaws.{either-false-both, kelvin-bounds, press-bound}
 use Rattle.volume.specs.Volume.{methaneLitres, Inside, litresMost}
 use Rattle.volume.proofs.Laws.{methane-litres-most, no-flow}
 use Rattle.drainage_runs.specs.Runs.{tooLong, notWhole}
@@ -101,29 +102,6 @@ held-right reading held b r x h = go (eqb reading mark) refl
     go : (t : Bool) → eqb reading mark ≡ t → held ≤ b
     go true e = found (ltb excluding held) refl (h e)
     go false e = x .measured e
-
--- ---- temperature and pressure that are there
-
-either-false-both : (a b : Bool) → either a b ≡ false → (a ≡ false) × (b ≡ false)
-either-false-both true b e = clash refl e
-either-false-both false b e = (refl, e)
-
-either-first : (a b : Bool) → either a b ≡ true → b ≡ false → a ≡ true
-either-first true b e f = refl
-either-first false b e f = clash e f
-
-range-kelvin : (z : ℤ) → ltZ z (negsuc 3999) ≡ false → ltZ (pos 10000) z ≡ false → (23315 ≤ kelvinOf z) × (kelvinOf z ≤ 37315)
-range-kelvin (pos n) a b = let h : n ≤ 10000 = ltb-false 10000 n b in (omega arith, omega arith)
-range-kelvin (negsuc n) a b = let h : n ≤ 3999 = ltb-false 3999 n a in (omega arith, omega arith)
-
-pub kelvin-bounds : (z : ℤ) → tempRight z ≡ true → tempMissing z ≡ false → (23315 ≤ kelvinOf z) × (kelvinOf z ≤ 37315)
-kelvin-bounds z r m =
-    let two = both-true (not (ltZ z (negsuc 3999))) (not (ltZ (pos 10000) z)) (either-first (between (negsuc 3999) (pos 10000) z) (tempMissing z) r m) in
-    range-kelvin z (not-true (ltZ z (negsuc 3999)) (two .0)) (not-true (ltZ (pos 10000) z) (two .1))
-
-pub press-bound : (p : ℕ) → pressRight p ≡ true → pressMissing p ≡ false → p ≤ 300000
-press-bound p r m =
-    leb-true p 300000 (both-true (leb 50000 p) (leb p 300000) (either-first (both (leb 50000 p) (leb p 300000)) (pressMissing p) r m) .1)
 
 -- ---- an interval's entry
 

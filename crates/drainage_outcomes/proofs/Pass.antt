@@ -16,7 +16,8 @@ use lib.ListN.{length, getD, drop, set, length-set, length-append, length-drop, 
 use lib.Seq.{drop-cons, getD-at, getD-set-same, getD-set-other, set-getD, ext-getD}
 use Rattle.rows.specs.Rows.{pick, build, sumTo, countOf, hit}
 use Rattle.rows.proofs.Laws.{build-step, build-done, length-build, getD-build, getD-inside}
-use Rattle.rows.proofs.Sums.{hit-same, hit-other, sumTo-bound}
+use Rattle.rows.proofs.Sums.{count-most}
+use Rattle.rows.proofs.More.{row-more, sum-more, count-more}
 use Rattle.protocol.specs.Ranges.{mark, ppmMost}
 use Rattle.columns.specs.Series.{Within}
 use Rattle.columns.proofs.Laws.{within}
@@ -103,51 +104,6 @@ module _ {h : Held} {n : ℕ} {old o f c counts : List ℕ} {methane i : ℕ} (x
 
 -- ---- start, step and end
 
--- a row with one more entry written
-row-more : (i : ℕ) (g : ℕ → ℕ) (old row : List ℕ) (v : ℕ) → row ≡ build i g ++ drop i old → i < length old → v ≡ g i
-    → set row i v ≡ build (i + 1) g ++ drop (i + 1) old
-row-more i g old row v e h q =
-    ap₂ (λ (xs : List ℕ) (y : ℕ). set xs i y) e q
-    ∙ build-step i g old h
-    ∙ ap (λ (m : ℕ). build m g ++ drop m old) (sym (add-one i))
-
-sum-more : (i : ℕ) (g : ℕ → ℕ) (s v : ℕ) → s ≡ sumTo i g → v ≡ g i → s + v ≡ sumTo (i + 1) g
-sum-more i g s v e q = ap₂ _+_ e q ∙ ap (λ (m : ℕ). sumTo m g) (sym (add-one i))
-
--- counts of nothing
-pub zeros : (m j : ℕ) → _≡_ {A = ℕ} (getD (replicate m 0) j 0) 0
-zeros zero j = refl
-zeros (suc m) zero = refl
-zeros (suc m) (suc j) = zeros m j
-
--- one more interval with outcome k, counted where it belongs
-count-more : (i : ℕ) (g : ℕ → ℕ) (counts : List ℕ) (k j : ℕ) → k ≡ g i → k < length counts → getD counts j 0 ≡ countOf i g j
-    → getD (set counts k (getD counts k 0 + 1)) j 0 ≡ countOf (i + 1) g j
-count-more i g counts k j q h e = go (eqb k j) refl ∙ sum-more i (λ m. hit (g m) j) (countOf i g j) (hit k j) refl (ap (λ (y : ℕ). hit y j) q)
-  where
-    same : k ≡ j → getD (set counts k (getD counts k 0 + 1)) j 0 ≡ countOf i g j + hit k j
-    same z =
-        ap (λ (y : ℕ). getD (set counts k (getD counts k 0 + 1)) y 0) (sym z)
-        ∙ getD-set-same counts k (getD counts k 0 + 1) 0 h
-        ∙ ap₂ _+_ (ap (λ (y : ℕ). getD counts y 0) z ∙ e) (sym (ap (λ (y : ℕ). hit y j) z ∙ hit-same j))
-
-    other : (k ≡ j → ⊥) → getD (set counts k (getD counts k 0 + 1)) j 0 ≡ countOf i g j + hit k j
-    other z =
-        getD-set-other counts k j (getD counts k 0 + 1) 0 (λ w. z (sym w))
-        ∙ e
-        ∙ (let y : hit k j ≡ 0 = hit-other k j z in let w : countOf i g j ≡ countOf i g j + hit k j = omega arith in w)
-
-    go : (t : Bool) → eqb k j ≡ t → getD (set counts k (getD counts k 0 + 1)) j 0 ≡ countOf i g j + hit k j
-    go true z = same (eqb-true k j z)
-    go false z = other (eqb-false k j z)
-
-count-most : (i : ℕ) (g : ℕ → ℕ) (j : ℕ) → countOf i g j ≤ i * 1
-count-most i g j = sumTo-bound i 1 (λ k. hit (g k) j) (λ k l. go (eqb (g k) j))
-  where
-    go : (t : Bool) → pick t 1 0 ≤ 1
-    go true = omega arith
-    go false = omega arith
-
 pub going-none : (h : Held) (n : ℕ) (old counts : List ℕ) → ReadyAt h n → length old ≡ n → length counts ≡ 10
     → ((j : ℕ) → j < 10 → getD counts j 0 ≡ 0) → Going h n old old (h .flow-held) (h .content-held) counts 0 0
 going-none h n old counts x e t z =
@@ -219,7 +175,7 @@ module _ {h : Held} {n : ℕ} {old o f c counts : List ℕ} {methane i : ℕ} (x
   -- whichever count it is
   pub slot-fits : (k v : ℕ) → k < 10 → v < 2 → Fits w64 (getD counts k 0 + v)
   slot-fits k v l z =
-      let a : countOf i (λ m. entryAt h m .outcome) k ≤ i * 1 = count-most i (λ m. entryAt h m .outcome) k in
+      let a : countOf i (λ m. entryAt h m .outcome) k ≤ i = count-most i (λ m. entryAt h m .outcome) k in
       let b : getD counts k 0 ≡ countOf i (λ m. entryAt h m .outcome) k = x .each k l in
       let w : i ≤ n = x .within in
       let m : n ≤ 35136 = x .ready .few in

@@ -4,3 +4,4 @@ pub mod Sums
 pub mod Scan
 pub mod Fill
 pub mod Joined
+pub mod More

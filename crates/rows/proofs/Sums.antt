@@ -2,7 +2,8 @@
 -- Assumes nothing.
 use Prim.Native.Nat.{ℕ, zero, suc, _+_, _*_, _≤_, _<_}
 use mathlib.Core.Path.{_≡_, refl, sym, ap, ap₂, _∙_, subst}
-use mathlib.Core.Bool.{Bool}
+use mathlib.Core.Bool.{Bool, true, false}
+use lib.Dec.{eqb}
 use native.Mathlib.Nat.{le-refl, le-step, lt-suc-self, mul-add, mul-zero, zero-mul, suc-mul, not-suc-le-zero, le-of-suc-le-suc, add-le-add, eq-or-lt-of-le}
 use native.Mathlib.Omega.{arith}
 use mathlib.Core.Logic.{_⊎_, ⊎-elim}
@@ -90,3 +91,10 @@ counts-add n m f h =
     ∙ sumTo-ext n (λ k. sumTo m (hit (f k))) (λ k. 1) (λ k l. hits-once m (f k) (h k l))
     ∙ sumTo-const n 1
     ∙ (let z : n * 1 ≡ n = omega arith in z)
+
+pub count-most : (n : ℕ) (f : ℕ → ℕ) (j : ℕ) → countOf n f j ≤ n
+count-most n f j = let h : countOf n f j ≤ n * 1 = sumTo-bound n 1 (λ k. hit (f k) j) (λ k z. one (eqb (f k) j)) in omega arith
+  where
+    one : (b : Bool) → pick b 1 0 ≤ 1
+    one true = omega arith
+    one false = omega arith

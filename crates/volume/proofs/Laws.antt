@@ -66,3 +66,8 @@ pub methane-litres-most : (flow content : ℕ) (temp : ℤ) (press : ℕ) → In
     litresMost
 unfolding methaneLitres methaneLitresIn
 methane-litres-most flow content temp press i h = methane-most (hundredthsOf flow temp press) content (hundredths-most flow temp press i) h
+
+-- and any interval of ventilation air
+pub air-litres-most : (flow content : ℕ) (temp : ℤ) (press : ℕ) → Inside flow temp press → content ≤ ppmMost → methaneLitres flow content temp press ≤ airMost
+unfolding methaneLitres methaneLitresIn
+air-litres-most flow content temp press i h = air-most (hundredthsOf flow temp press) content (hundredths-most flow temp press i) h

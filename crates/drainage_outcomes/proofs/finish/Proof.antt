@@ -9,7 +9,8 @@ use Rattle.columns.specs.Series.{seriesOf, seriesNow}
 use Rattle.drainage_outcomes.specs.Outcomes.{entryAt, Held}
 use Rattle.drainage_outcomes.proofs.Pass.{Going, reads-ready, reads-entry, measured-inside, measured-entry, going-none, going-few, going-more}
 use Rattle.drainage_outcomes.proofs.Pass.{going-kept, methane-room, slot-fits, going-all, length-rows, inside-series, inside-rows, index-fits}
-use Rattle.drainage_outcomes.proofs.Pass.{next-fits, turns-less, going-slot, zeros}
+use Rattle.rows.proofs.More.{zeros}
+use Rattle.drainage_outcomes.proofs.Pass.{next-fits, turns-less, going-slot}
 use Rattle.drainage_outcomes.proofs.finish.Statement.{statement}
 use Rattle.drainage_outcomes.proofs.finish.Tie as tie
 mod PlaceNames
