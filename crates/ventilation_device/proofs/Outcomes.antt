@@ -6,7 +6,7 @@ use mathlib.Core.Bool.{Bool, true, false}
 use native.Mathlib.Omega.{arith}
 use lib.Dec.{eqb, ltb}
 use borrow.Author.Tests.{ltb-false}
-use Rattle.rows.specs.Rows.{pick, both, either}
+use Rattle.rows.specs.Rows.{pick, both, either, hit}
 use Rattle.rows.proofs.Laws.{both-true}
 use Rattle.rows.proofs.Truth.{clash}
 use Rattle.protocol.specs.Ranges.{missing, flowMost, ppmMost, tempMissing, pressMissing, flowRight, ppmRight, tempRight, pressRight}
@@ -52,6 +52,14 @@ few false true l a = omega arith
 few false false true a = omega arith
 few false false false true = omega arith
 few false false false false = omega arith
+
+-- and it is neither 1 nor 2: nothing is replaced
+not-replaced : (s u l a : Bool) → (hit (ordered s u l a) 1 ≡ 0) × (hit (ordered s u l a) 2 ≡ 0)
+not-replaced true u l a = (refl, refl)
+not-replaced false true l a = (refl, refl)
+not-replaced false false true a = (refl, refl)
+not-replaced false false false true = (refl, refl)
+not-replaced false false false false = (refl, refl)
 
 -- only outcome 0 is counted, and then nothing is missing and no more leaves than enters
 counted-so : (s u l a : Bool) → counted (ordered s u l a) ≡ true → (l ≡ false) × (a ≡ false)
@@ -122,6 +130,10 @@ module _ (x y : Gas) (status : ℕ) where
   pub outcome-few : entryOf x y status .outcome < 10
   unfolding entryOf outcomeOf
   outcome-few = few (eqb status 0) (eqb status 3) lacking (ltb (inletLitres x) (exhaustLitres y))
+
+  pub none-replaced : (hit (entryOf x y status .outcome) 1 ≡ 0) × (hit (entryOf x y status .outcome) 2 ≡ 0)
+  unfolding entryOf outcomeOf
+  none-replaced = not-replaced (eqb status 0) (eqb status 3) lacking (ltb (inletLitres x) (exhaustLitres y))
 
   -- a counted interval has both streams measured, and no more out than in
   pub counted-so-far : counted (entryOf x y status .outcome) ≡ true → (gasMissing x ≡ false) × (gasMissing y ≡ false) × (exhaustLitres y ≤ inletLitres x)

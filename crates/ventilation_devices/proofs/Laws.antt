@@ -5,10 +5,12 @@ use mathlib.Core.Path.{_≡_, sym, ap, _∙_, subst}
 use mathlib.Core.List.{List}
 use native.Mathlib.Nat.{le-trans, add-sub-cancel-left}
 use native.Mathlib.Omega.{arith}
-use lib.ListN.{length}
-use Rattle.rows.specs.Rows.{build, sumTo, countOf, put}
-use Rattle.rows.proofs.Laws.{length-build, length-put}
-use Rattle.columns.specs.Streams.{Air, AirLong, AirRight, airPart}
+use lib.Dec.{lit<}
+use lib.ListN.{length, getD}
+use Rattle.rows.specs.Rows.{build, sumTo, countOf, hit, put}
+use Rattle.rows.proofs.Laws.{length-build, getD-build, length-put}
+use Rattle.rows.proofs.Sums.{sumTo-ext, sumTo-zero}
+use Rattle.columns.specs.Streams.{Air, gasAt, AirLong, AirRight, airPart}
 use Rattle.columns.specs.Series.{rowOf}
 use Rattle.columns.proofs.Laws as Series
 use Rattle.columns.proofs.Laws.{part-end}
@@ -17,10 +19,12 @@ use Rattle.balance.specs.Balance.{deviceMost}
 use Rattle.volume.specs.Volume.{airMost}
 use Rattle.accounts.specs.declared.Account.{Account}
 use Rattle.accounts.specs.Account.{outcomeKinds}
+use Rattle.accounts.specs.Totals.{replacedIn}
 use Rattle.accounts.specs.Private.{Modest}
 use Rattle.accounts.proofs.Given.{Counts}
 use Rattle.accounts.proofs.Numbers.{built-most}
 use Rattle.ventilation_device.specs.Device.{intervalsOf, entryAt, outcomeAt, inletOf, exhaustOf, accountOf, Right, Filled}
+use Rattle.ventilation_device.proofs.Outcomes.{none-replaced}
 use Rattle.ventilation_device.proofs.Pass.{entry-few, out-of-in, inlet-most}
 use Rattle.ventilation_devices.specs.Devices.{Lent, airIn, outcomePart, accountIn, Sound, Written}
 
@@ -61,6 +65,27 @@ account-counts a i = build outcomeKinds (countOf (intervalsOf a) (outcomeAt a))
 account-shares : (a : Air) → Right a → accountOf a .destroyed + accountOf a .uncombusted ≡ accountOf a .methane
 unfolding accountOf
 account-shares a x = omega (arith, left-in a x)
+
+-- no interval is replaced
+never : (a : Air) (j : ℕ) → ((k : ℕ) → hit (outcomeAt a k) j ≡ 0) → countOf (intervalsOf a) (outcomeAt a) j ≡ 0
+never a j h = sumTo-ext (intervalsOf a) (λ k. hit (outcomeAt a k) j) (λ k. 0) (λ k l. h k) ∙ sumTo-zero (intervalsOf a)
+
+entry-replaced : (a : Air) (k : ℕ) → (hit (outcomeAt a k) 1 ≡ 0) × (hit (outcomeAt a k) 2 ≡ 0)
+unfolding entryAt
+entry-replaced a k = none-replaced (gasAt (a .inlet) k) (gasAt (a .exhaust) k) (getD (a .status) k 0)
+
+pub account-replaced : (a : Air) → replacedIn (accountOf a) ≡ 0
+unfolding replacedIn accountOf
+account-replaced a =
+    let one : countOf (intervalsOf a) (outcomeAt a) 1 ≡ 0 = never a 1 (λ k. entry-replaced a k .0) in
+    let two : countOf (intervalsOf a) (outcomeAt a) 2 ≡ 0 = never a 2 (λ k. entry-replaced a k .1) in
+    omega (
+      arith,
+      one,
+      two,
+      getD-build outcomeKinds (countOf (intervalsOf a) (outcomeAt a)) 1 0 (lit< tt),
+      getD-build outcomeKinds (countOf (intervalsOf a) (outcomeAt a)) 2 0 (lit< tt),
+    )
 
 -- ---- device d's own
 
