@@ -6,8 +6,6 @@ use mathlib.Core.List.{List}
 use native.Mathlib.Omega.{arith}
 use Rattle.refusals.specs.declared.Told.{Told}
 use Rattle.refusals.specs.Table.{toldOf, never-eight, verdict-never-eight}
-use Rattle.drainage_judge.specs.Call.{Call}
-use Rattle.drainage_devices.specs.Devices.{Results}
 use Rattle.figures.specs.declared.Figures.{Figures}
 use Rattle.accounts.specs.Sheet.{toldIn}
 use Rattle.accounts.specs.declared.Answer.{Answer}
@@ -25,7 +23,7 @@ use Rattle.drainage_record.specs.declared.ReadAnswer.the-variants as RecordAnsw
 use Rattle.sheet_text.specs.Sheet.{textOf}
 use Rattle.drainage_report.specs.Quantified.{answerTo}
 use Rattle.drainage_report.specs.Report.{refusalText, printed, Lent, outputOf}
-use Rattle.cmm.specs.Exported.{Arrays, Quantified, SheetWritten, SheetRead, RecordRead, FlowRead}
+use Rattle.cmm.specs.Exported.{Arrays, Answered, SheetWritten, SheetRead, RecordRead, FlowRead}
 
 -- ---- of each answer that is an enum: three zeros, or a refusal's
 
@@ -62,8 +60,10 @@ report-no-eight (RecordAnswer.Refused r) rows l = NotEight.refusal (toldOf r) (n
 -- ---- of each exported function that gives a number
 
 module _ (n : ℕ) (e : n ≡ 8) where
-  pub quantified-no-eight : (c : Call) (before after : Results) (old new : Arrays) (at : List ℕ) → Quantified c before after old new at n → ⊥
-  quantified-no-eight c before after old new at x = quantify-never-eight (x .answer) (sym (x .told) ∙ e)
+  -- of drainage gas and of ventilation air
+  pub quantified-no-eight : {R : Type 0} (Promise : R → R → Answer → Type 0) (before after : R) (old new : Arrays) (at : List ℕ)
+      → Answered Promise before after old new at n → ⊥
+  quantified-no-eight Promise before after old new at x = quantify-never-eight (x .answer) (sym (x .handed .told) ∙ e)
 
   pub written-no-eight : (f : Figures) (old new size : List ℕ) → SheetWritten f old new size n → ⊥
   written-no-eight f old new size x = write-never-eight (x .answer) (sym (x .told) ∙ e)

@@ -11,6 +11,9 @@ use Rattle.figures.specs.declared.Figures.{Figures}
 use Rattle.accounts.specs.Sheet.{toldIn}
 use Rattle.accounts.specs.declared.Answer.{Answer}
 use Rattle.drainage.proofs.Settling.{settled-unique}
+use Rattle.ventilation_judge.specs.Call as VentilationCall
+use Rattle.ventilation_devices.specs.Devices as VentilationResults
+use Rattle.ventilation.proofs.Settling as VentilationSettling
 use Rattle.sheet_text.specs.Write as Write
 use Rattle.sheet_text.specs.Read as Read
 use Rattle.sheet_text.specs.declared.WriteAnswer.{WriteAnswer}
@@ -21,28 +24,41 @@ use Rattle.drainage_record.specs.Read as Reader
 use Rattle.drainage_record.specs.declared.ReadAnswer as RecordType
 use Rattle.drainage_record.proofs.Settled as RecordSettled
 use Rattle.historian.proofs.Settled.{read-unique}
-use Rattle.cmm.specs.Exported.{Arrays, arraysAfter, arraysOf, sizeOf, headAfter, Quantified, SheetWritten, SheetRead, RecordRead, FlowRead}
+use Rattle.cmm.specs.Exported.{Arrays, arraysAfter, arraysOf, sizeOf, headAfter, Answered, Quantified, AirQuantified, SheetWritten, SheetRead, RecordRead, FlowRead}
 
 -- two things told of two answers that are one
 told-once : {A B : Type 0} (f : A → B) {a b : A} {x y : B} → a ≡ b → x ≡ f a → y ≡ f b → x ≡ y
 told-once f e p q = p ∙ ap f e ∙ sym q
 
-pub record Same (one two : Results) (held other : Arrays) (at at′ : List ℕ) (m n : ℕ) : Type 0 where
+pub record Same {R : Type 0} (one two : R) (held other : Arrays) (at at′ : List ℕ) (m n : ℕ) : Type 0 where
   pub results : one ≡ two
   pub figures : held ≡ other
   pub place : at ≡ at′
   pub number : m ≡ n
 
-pub quantified-settled : (c : Call) (before one two : Results) (old held other : Arrays) (at at′ : List ℕ) (m n : ℕ)
-    → Quantified c before one old held at m → Quantified c before two old other at′ n → Same one two held other at at′ m n
-quantified-settled c before one two old held other at at′ m n x y =
-    let e = settled-unique c before one two (x .answer) (y .answer) (x .settled) (y .settled) in
+-- of any quantification whose promise permits one answer and one result
+answered-settled : {R : Type 0} {Promise : R → R → Answer → Type 0} (before one two : R) (old held other : Arrays) (at at′ : List ℕ) (m n : ℕ)
+    → ((a b : Answer) → Promise before one a → Promise before two b → (a ≡ b) × (one ≡ two))
+    → Answered Promise before one old held at m → Answered Promise before two old other at′ n → Same one two held other at at′ m n
+answered-settled before one two old held other at at′ m n unique x y =
+    let e = unique (x .answer) (y .answer) (x .settled) (y .settled) in
+    let p = x .handed in
+    let q = y .handed in
     record {
       results = e .1;
-      figures = told-once (λ (a : Answer). arraysAfter a old) (e .0) (x .figures) (y .figures);
-      place = told-once (λ (a : Answer). toldIn a .device ∷ toldIn a .place ∷ []) (e .0) (x .place) (y .place);
-      number = told-once (λ (a : Answer). toldIn a .number) (e .0) (x .told) (y .told);
+      figures = told-once (λ (a : Answer). arraysAfter a old) (e .0) (p .figures) (q .figures);
+      place = told-once (λ (a : Answer). toldIn a .device ∷ toldIn a .place ∷ []) (e .0) (p .place) (q .place);
+      number = told-once (λ (a : Answer). toldIn a .number) (e .0) (p .told) (q .told);
     }
+
+pub quantified-settled : (c : Call) (before one two : Results) (old held other : Arrays) (at at′ : List ℕ) (m n : ℕ)
+    → Quantified c before one old held at m → Quantified c before two old other at′ n → Same one two held other at at′ m n
+quantified-settled c before one two old held other at at′ m n = answered-settled before one two old held other at at′ m n (settled-unique c before one two)
+
+pub air-quantified-settled : (c : VentilationCall.Call) (before one two : VentilationResults.Results) (old held other : Arrays) (at at′ : List ℕ) (m n : ℕ)
+    → AirQuantified c before one old held at m → AirQuantified c before two old other at′ n → Same one two held other at at′ m n
+air-quantified-settled c before one two old held other at at′ m n =
+    answered-settled before one two old held other at at′ m n (VentilationSettling.settled-unique c before one two)
 
 pub written-settled : (f : Figures) (old new other size size′ : List ℕ) (m n : ℕ)
     → SheetWritten f old new size m → SheetWritten f old other size′ n → (new ≡ other) × (size ≡ size′) × (m ≡ n)

@@ -13,6 +13,9 @@ use Rattle.accounts.specs.Sheet.{toldIn}
 use Rattle.drainage.specs.Promise.{Settled}
 use Rattle.accounts.specs.declared.Answer.{Answer}
 use Rattle.accounts.specs.declared.Answer.the-variants as Answer
+use Rattle.ventilation_judge.specs.Call as VentilationCall
+use Rattle.ventilation_devices.specs.Devices as VentilationResults
+use Rattle.ventilation.specs.Promise as VentilationPromise
 use Rattle.sheet_text.specs.Write as Write
 use Rattle.sheet_text.specs.Write.{WriteRight}
 use Rattle.sheet_text.specs.Read as Read
@@ -31,7 +34,7 @@ use Rattle.cmm.specs.Figures.{amountsOf, balancesOf}
 
 -- The number that header, library and command share: that of the latest note in docs/landings.
 abbrev pub version : ℕ
-version = 7
+version = 8
 
 -- the host's two arrays of figures
 pub record Arrays : Type 0 where
@@ -45,12 +48,24 @@ abbrev pub arraysAfter : Answer → Arrays → Arrays
 arraysAfter (Answer.Accepted f) before = given f
 arraysAfter (Answer.Refused r) before = before
 
-pub record Quantified (c : Call) (before after : Results) (old new : Arrays) (at : List ℕ) (number : ℕ) : Type 0 where
-  pub answer : Answer
-  pub settled : Settled c before after answer
+-- how an answer is handed over: its number, its device and place, and its figures where there are any
+pub record Handed (answer : Answer) (old new : Arrays) (at : List ℕ) (number : ℕ) : Type 0 where
   pub told : number ≡ toldIn answer .number
   pub place : at ≡ toldIn answer .device ∷ toldIn answer .place ∷ []
   pub figures : new ≡ arraysAfter answer old
+
+-- a quantification that keeps this promise of its results, and hands its answer over
+pub record Answered {R : Type 0} (Promise : R → R → Answer → Type 0) (before after : R) (old new : Arrays) (at : List ℕ) (number : ℕ) : Type 0 where
+  pub answer : Answer
+  pub settled : Promise before after answer
+  pub handed : Handed answer old new at number
+
+-- of drainage gas, and of ventilation air
+abbrev pub Quantified : Call → Results → Results → Arrays → Arrays → List ℕ → ℕ → Type 0
+Quantified c = Answered (Settled c)
+
+abbrev pub AirQuantified : VentilationCall.Call → VentilationResults.Results → VentilationResults.Results → Arrays → Arrays → List ℕ → ℕ → Type 0
+AirQuantified c = Answered (VentilationPromise.Settled c)
 
 -- the length written, or needed, which is the place of that refusal (rule 4.11)
 abbrev pub sizeOf : WriteAnswer → ℕ
