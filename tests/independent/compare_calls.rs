@@ -10,11 +10,12 @@ use crate::quantify::{quantify, Quantified};
 use crate::refusal::Refusal;
 use crate::refusals::READINGS;
 use crate::rng::Rng;
+use crate::sheet::Figures;
 use crate::{calls, reading_kinds};
 
 /// Each device's account: 13 numbers for each of 16 devices.
-const ACCOUNT: usize = 13;
-const ACCOUNTS_LENGTH: usize = 16 * ACCOUNT;
+pub const ACCOUNT: usize = 13;
+pub const ACCOUNTS_LENGTH: usize = 16 * ACCOUNT;
 
 /// Kinds of answer that any long run must meet.
 pub fn wanted() -> Vec<String> {
@@ -111,7 +112,7 @@ fn expected(answer: &Answer, before: &Image) -> Image {
         Ok(quantified) => {
             image.write("at", &[0_u64, 0]);
             write_rows(&mut image, quantified);
-            write_figures(&mut image, quantified);
+            write_figures(&mut image, &quantified.figures);
             let numbers: Vec<u64> = quantified.accounts.iter().flat_map(|account| account.numbers()).collect();
             image.write("accounts", &numbers);
         }
@@ -127,8 +128,8 @@ fn write_rows(image: &mut Image, quantified: &Quantified) {
 }
 
 /// The sheet's figures: those never negative in one array, the balances in another.
-fn write_figures(image: &mut Image, quantified: &Quantified) {
-    let numbers = quantified.figures.numbers();
+pub fn write_figures(image: &mut Image, figures: &Figures) {
+    let numbers = figures.numbers();
     let [.., reduction, tonnes, credits] = numbers;
     let amounts: Vec<u64> = numbers[..12].iter().chain([&credits]).map(|&number| number as u64).collect();
     image.write("amounts", &amounts);

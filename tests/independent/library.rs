@@ -13,6 +13,7 @@ pub enum Function {
     ReadSheet,
     WriteSheet,
     ReadFlow,
+    Ventilation,
 }
 
 /// As many words as every request has; the rest are 0.

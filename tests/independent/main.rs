@@ -12,6 +12,7 @@ mod compare_command;
 mod compare_exports;
 mod compare_flow;
 mod compare_limits;
+mod compare_ventilation;
 mod damaged_files;
 mod damaged_sheets;
 mod decimal;
@@ -69,6 +70,18 @@ mod selfcheck_words;
 mod sheet;
 mod sound_calls;
 mod tonnes;
+mod vent_air;
+mod vent_call;
+mod vent_calls;
+mod vent_draw;
+mod vent_exact;
+mod vent_litres;
+mod vent_plain;
+mod vent_quantify;
+mod vent_reading_kinds;
+mod vent_refusals;
+mod vent_wrong_calls;
+mod vent_wrong_readings;
 mod word_files;
 mod words;
 mod wrong_calls;
@@ -97,6 +110,7 @@ const USAGE: &str = "usage:
   independent compare-flow ROW SEED COUNT -- COMMAND [WORDS]   `COMMAND sheet --flow`, records of up to ROW entries
   independent compare-calls SEED COUNT SERVER            the library's cmm_quantify on generated calls
   independent compare-limits SEED WINDOWS SERVER         the same on rows full of gaps with a lower limit
+  independent compare-ventilation SEED COUNT SERVER      the library's cmm_quantify_ventilation on generated calls
   independent compare-library SEED COUNT ROW SERVER      its cmm_report with rows of this length, result rows too
   independent compare-library-sheets SEED COUNT SERVER   its reader and writer of sheets
   independent compare-exports SEED COUNT SERVER          its cmm_read_flow on generated exports
@@ -138,6 +152,7 @@ fn run(words: &[&str]) -> Option<bool> {
         ["compare-command", row, seed, count, words @ ..] => compare_command(row, seed, count, words),
         ["compare-flow", row, seed, count, "--", command @ ..] => compare_flow(row, seed, count, command),
         ["compare-calls", seed, count, server @ ..] => compare_calls(seed, count, server),
+        ["compare-ventilation", seed, count, server @ ..] => compare_ventilation(seed, count, server),
         ["compare-limits", seed, windows, server @ ..] => compare_limits(seed, windows, server),
         ["compare-library", seed, count, row, server @ ..] => compare_library(seed, count, row, server),
         ["compare-library-sheets", seed, count, server @ ..] => compare_library_sheets(seed, count, server),
@@ -230,6 +245,12 @@ fn compare_calls(seed: &str, count: &str, server: &[&str]) -> Option<bool> {
     let (seed, count, library) = (seed.parse().ok()?, count.parse().ok()?, Library::new(server)?);
     let summary = compare::compare(count, &|number| compare_calls::judge(seed, number, &library));
     Some(summary.conclude("calls", count, &compare_calls::wanted()))
+}
+
+fn compare_ventilation(seed: &str, count: &str, server: &[&str]) -> Option<bool> {
+    let (seed, count, library) = (seed.parse().ok()?, count.parse().ok()?, Library::new(server)?);
+    let summary = compare::compare(count, &|number| compare_ventilation::judge(seed, number, &library));
+    Some(summary.conclude("calls", count, &compare_ventilation::wanted()))
 }
 
 fn compare_limits(seed: &str, windows: &str, server: &[&str]) -> Option<bool> {

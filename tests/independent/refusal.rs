@@ -2,7 +2,7 @@
 
 /// The numbers that are in use. 8 was any wrong reading's; it is given up, and never given again.
 pub fn is_given(number: u64) -> bool {
-    matches!(number, 1..=7 | 9..=21)
+    matches!(number, 1..=7 | 9..=23)
 }
 
 #[derive(Clone, Copy, PartialEq, Eq, Debug)]

@@ -24,7 +24,7 @@ fn base_of(rng: &Rng, n: usize, devices: usize) -> Call {
     Call::of(&record)
 }
 
-fn some(rng: &Rng) -> usize {
+pub fn some(rng: &Rng) -> usize {
     rng.pick(&[1, 2, 3, 3, 4, 16])
 }
 
@@ -72,12 +72,16 @@ pub fn lengths(rng: &Rng, case: usize) -> Call {
     call
 }
 
-const LENGTH_WAYS: usize = 12;
+pub const LENGTH_WAYS: usize = 12;
 
-/// How long the slice is instead of what it should be. A very long one is only told: nothing of it may be read.
 fn wrong_length(rng: &Rng, call: &mut Call, slice: usize, way: usize) {
     let right = call.lengths()[slice];
-    let (n, d) = (call.intervals as usize, call.devices as usize);
+    let length = other_length(rng, right, call.intervals as usize, call.devices as usize, way);
+    set_length(call, slice, length);
+}
+
+/// How long a slice is instead of what it should be. A very long one is only told: nothing of it may be read.
+pub fn other_length(rng: &Rng, right: usize, n: usize, d: usize, way: usize) -> usize {
     let many = rng.pick(&[2, 16, 32, 64, 255, 256, 1_000, 65_536]);
     let length = match way {
         0 => right.saturating_sub(1),
@@ -113,12 +117,18 @@ fn wrong_length(rng: &Rng, call: &mut Call, slice: usize, way: usize) {
         _ => rng.pick(&[1 << 63, usize::MAX, right + (1 << 40), right.wrapping_neg()]),
     };
     // Of the fuel slices no length is wrong by itself.
-    let length = if length == right { right + 1 } else { length };
-    set_length(call, slice, length);
+    if length == right {
+        right + 1
+    } else {
+        length
+    }
 }
 
+/// From here on a length is only told.
+pub const LONGEST_LENT: usize = 1 << 20;
+
 fn set_length(call: &mut Call, slice: usize, length: usize) {
-    if length > 1 << 20 {
+    if length > LONGEST_LENT {
         call.told.push((slice, length));
         return;
     }
@@ -139,7 +149,7 @@ fn set_length(call: &mut Call, slice: usize, length: usize) {
 }
 
 /// New entries repeat the last one.
-fn resize<T: Copy>(entries: &mut Vec<T>, length: usize, default: T) {
+pub fn resize<T: Copy>(entries: &mut Vec<T>, length: usize, default: T) {
     let last = entries.last().copied().unwrap_or(default);
     entries.resize(length, last);
 }
@@ -345,7 +355,8 @@ fn wrong_reading(rng: &Rng, call: &mut Call, i: usize, number: u32, way: usize) 
     }
 }
 
-fn offend_fuels(rng: &Rng, call: &mut Call, way: usize) {
+/// Ways past those that `WAYS` gives keep the rule.
+pub fn offend_fuels(rng: &Rng, call: &mut Call, way: usize) {
     let counts = [65, 66, 128, 256, 257, 1_000, 65_537, 64, 63, 0];
     let told = call.quantity.len() + (1 << 32);
     match way {
@@ -371,7 +382,7 @@ fn set_fuels(call: &mut Call, fuels: &[Fuel]) {
     call.factor = fuels.iter().map(|fuel| fuel.factor).collect();
 }
 
-fn wrong_fuel(rng: &Rng, call: &mut Call, place: usize, way: usize) {
+pub fn wrong_fuel(rng: &Rng, call: &mut Call, place: usize, way: usize) {
     match way {
         0 => call.quantity[place] = 1_000_000_001,
         1 => call.quantity[place] = rng.pick(&[u32::MAX, 1 << 31]),

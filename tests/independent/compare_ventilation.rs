@@ -1,0 +1,142 @@
+//! `cmm_quantify_ventilation` called directly: number, device and place, figures, and every entry of all lent arrays
+//! against the own answer; after an accepted call demand 3, over the row that the library has given.
+
+use crate::compare::{keep, other_number, Judged};
+use crate::compare_calls::{write_figures, ACCOUNT, ACCOUNTS_LENGTH};
+use crate::image::{Array, Image};
+use crate::library::{Function, Library};
+use crate::refusal::Refusal;
+use crate::rng::Rng;
+use crate::vent_call::{VentCall, SLICES};
+use crate::vent_calls::{self, Generated};
+use crate::vent_exact::unfair;
+use crate::vent_quantify::{quantify_ventilation, VentQuantified};
+use crate::vent_reading_kinds;
+
+pub type Answer = Result<VentQuantified, Refusal>;
+
+/// Kinds of answer that any long run must meet.
+pub fn wanted() -> Vec<String> {
+    let wrong_slices = SLICES.iter().map(|slice| wrong_length(slice));
+    let refusals = [1, 2, 3, 9, 21, 22, 23].map(|number| format!("refusal {number:2}"));
+    let readings = [vent_reading_kinds::wanted(), vent_reading_kinds::wanted_of_blocks()].concat();
+    refusals.into_iter().chain(wrong_slices).chain(readings).collect()
+}
+
+fn wrong_length(slice: &str) -> String {
+    format!("length of {slice}")
+}
+
+/// What the call and the own answer to it show.
+pub fn kinds(generated: &Generated, answer: &Answer) -> Vec<String> {
+    let mut kinds = match answer {
+        Err(refusal) => {
+            let number = format!("refusal {:2}", refusal.number);
+            [vec![number], vent_reading_kinds::of_call(&generated.call, refusal)].concat()
+        }
+        Ok(_) => vec!["sheet".to_string()],
+    };
+    kinds.extend(generated.wrong_slice.map(wrong_length));
+    kinds
+}
+
+pub fn judge(seed: u64, number: usize, library: &Library) -> Judged {
+    let generated = vent_calls::generate(seed, number);
+    let call = &generated.call;
+    let answer = quantify_ventilation(call);
+    let difference = ask(seed, number, call, &answer, library);
+    Judged { class: generated.class, kinds: kinds(&generated, &answer), difference }
+}
+
+/// What the library leaves differently than this answer has it; then the call is kept.
+fn ask(seed: u64, number: usize, call: &VentCall, answer: &Answer, library: &Library) -> Option<String> {
+    // Another stream than the call's own.
+    let before = lent(call, &Rng::new(!seed, number as u64));
+    let difference = match library.call(Function::Ventilation, &words(call, &before), &before.bytes) {
+        Err(trouble) => Some(trouble),
+        Ok((given, bytes)) => difference(call, answer, &before, given, &before.with(bytes)),
+    };
+    difference.map(|difference| {
+        let text = format!("{call:?}\n");
+        format!("{difference}; {}", keep(number, &[("call", text.as_bytes())]))
+    })
+}
+
+/// Every array of the call; those that it may write hold something drawn.
+fn lent(call: &VentCall, rng: &Rng) -> Image {
+    let arrays = vec![
+        Array::of("inlet_flow", &call.inlet.flow),
+        Array::of("inlet_ppm", &call.inlet.ppm),
+        Array::of("inlet_temp", &call.inlet.temp),
+        Array::of("inlet_press", &call.inlet.press),
+        Array::of("exhaust_flow", &call.exhaust.flow),
+        Array::of("exhaust_ppm", &call.exhaust.ppm),
+        Array::of("exhaust_temp", &call.exhaust.temp),
+        Array::of("exhaust_press", &call.exhaust.press),
+        Array::of("status", &call.status),
+        Array::of("quantity", &call.quantity),
+        Array::of("factor", &call.factor),
+        Array::drawn::<u8>(rng, "outcome", call.row),
+        Array::drawn::<u64>(rng, "amounts", 13),
+        Array::drawn::<i64>(rng, "balances", 2),
+        Array::drawn::<u64>(rng, "at", 2),
+        Array::drawn::<u64>(rng, "accounts", ACCOUNTS_LENGTH),
+    ];
+    Image::new(rng, arrays)
+}
+
+/// The arguments, as tests/library/serve.c takes them.
+fn words(call: &VentCall, image: &Image) -> Vec<u64> {
+    let mut words = vec![call.intervals as u64, call.devices as u64];
+    for (slice, length) in SLICES.iter().zip(call.lengths()) {
+        words.extend([image.start(slice), length as u64]);
+    }
+    words.extend(["amounts", "balances", "at", "accounts"].map(|name| image.start(name)));
+    words
+}
+
+fn difference(call: &VentCall, answer: &Answer, before: &Image, given: u64, after: &Image) -> Option<String> {
+    let number = answer.as_ref().err().map_or(0, |refusal| refusal.number as u64);
+    if given != number {
+        return Some(other_number(given, number));
+    }
+    let different = expected(answer, before).difference(after);
+    if different.is_some() || answer.is_err() {
+        return different;
+    }
+    unfair_answer(call, after).map(str::to_string)
+}
+
+/// What the lent memory should hold after the call. A refused one writes where the refusal is, and nothing else.
+fn expected(answer: &Answer, before: &Image) -> Image {
+    let mut image = before.clone();
+    match answer {
+        Err(refusal) => image.write("at", &[refusal.device, refusal.place]),
+        Ok(quantified) => {
+            image.write("at", &[0_u64, 0]);
+            image.write("outcome", &quantified.outcome);
+            write_figures(&mut image, &quantified.figures);
+            let numbers: Vec<u64> = quantified.accounts.iter().flat_map(|account| account.numbers()).collect();
+            image.write("accounts", &numbers);
+        }
+    }
+    image
+}
+
+/// Of nothing but what the library has written: each interval counted or excluded, once; each litre destroyed or in
+/// the exhaust, once; and demand 3.
+fn unfair_answer(call: &VentCall, after: &Image) -> Option<&'static str> {
+    let amounts = after.read::<u64>("amounts");
+    let accounts = after.read::<u64>("accounts");
+    let own: Vec<&[u64]> = accounts.chunks_exact(ACCOUNT).take(call.devices as usize).collect();
+    let is_whole = |account: &&[u64]| account[..10].iter().sum::<u64>() == call.intervals as u64;
+    if amounts[2] + amounts[4] != call.entries() as u64 || !own.iter().all(is_whole) {
+        return Some("an interval is not counted or excluded, once");
+    }
+    let mut litres = vec![[amounts[5], amounts[6], amounts[7]]];
+    litres.extend(own.iter().map(|account| [account[10], account[11], account[12]]));
+    if litres.iter().any(|[inlet, destroyed, exhaust]| destroyed.checked_add(*exhaust) != Some(*inlet)) {
+        return Some("a litre is not destroyed or in the exhaust, once");
+    }
+    unfair(call, &after.read::<u8>("outcome"), after.read::<i64>("balances")[1] as i128)
+}
