@@ -10,8 +10,12 @@ use crate::rng::Rng;
 use crate::vent_call::{VentCall, SLICES};
 use crate::vent_calls::{self, Generated};
 use crate::vent_exact::unfair;
+use crate::vent_kinds::not_as_by;
 use crate::vent_quantify::{quantify_ventilation, VentQuantified};
-use crate::vent_reading_kinds;
+use crate::{vent_kinds, vent_reading_kinds, vent_wrong_refusals};
+
+/// Wrong programs are told in calls of at most so many entries.
+const LONGEST: usize = 256;
 
 pub type Answer = Result<VentQuantified, Refusal>;
 
@@ -20,7 +24,9 @@ pub fn wanted() -> Vec<String> {
     let wrong_slices = SLICES.iter().map(|slice| wrong_length(slice));
     let refusals = [1, 2, 3, 9, 21, 22, 23].map(|number| format!("refusal {number:2}"));
     let readings = [vent_reading_kinds::wanted(), vent_reading_kinds::wanted_of_blocks()].concat();
-    refusals.into_iter().chain(wrong_slices).chain(readings).collect()
+    let wrong_refusals = vent_wrong_refusals::PROGRAMS.iter().map(|wrong| not_as_by(wrong.name));
+    let kinds = refusals.into_iter().chain(wrong_slices).chain(readings);
+    kinds.chain(vent_kinds::wanted()).chain(wrong_refusals).collect()
 }
 
 fn wrong_length(slice: &str) -> String {
@@ -34,10 +40,20 @@ pub fn kinds(generated: &Generated, answer: &Answer) -> Vec<String> {
             let number = format!("refusal {:2}", refusal.number);
             [vec![number], vent_reading_kinds::of_call(&generated.call, refusal)].concat()
         }
-        Ok(_) => vec!["sheet".to_string()],
+        Ok(quantified) => vent_kinds::of_sheet(&generated.call, quantified),
     };
+    kinds.extend(wrong_refusals(&generated.call, answer).into_iter().map(not_as_by));
     kinds.extend(generated.wrong_slice.map(wrong_length));
     kinds
+}
+
+/// Wrong programs for refusals that are told here, of calls of some length whose N, D and lengths are right.
+fn wrong_refusals(call: &VentCall, answer: &Answer) -> Vec<&'static str> {
+    let right = answer.as_ref().err().copied();
+    if right.is_some_and(|refusal| refusal.number <= 3) || call.entries() > LONGEST {
+        return vec![];
+    }
+    vent_wrong_refusals::told_from(call, right)
 }
 
 pub fn judge(seed: u64, number: usize, library: &Library) -> Judged {

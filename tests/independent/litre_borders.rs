@@ -38,7 +38,7 @@ pub fn common(number: u64, modulus: u64) -> (u64, u64) {
 }
 
 /// One of the numbers of a range that leave this remainder, if any does.
-fn one_with(rng: &Rng, remainder: u64, modulus: u64, (low, high): (u64, u64)) -> Option<u32> {
+pub fn one_with(rng: &Rng, remainder: u64, modulus: u64, (low, high): (u64, u64)) -> Option<u32> {
     let first = low + (remainder + modulus - low % modulus) % modulus;
     (first <= high).then(|| (first + modulus * rng.below(((high - first) / modulus + 1) as usize) as u64) as u32)
 }

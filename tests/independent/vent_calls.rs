@@ -3,6 +3,7 @@
 use crate::generate::{class, turn, Class};
 use crate::rng::Rng;
 use crate::vent_call::VentCall;
+use crate::{vent_borders, vent_lost, vent_methane, vent_missing, vent_told};
 use crate::{vent_plain, vent_wrong_calls, vent_wrong_readings};
 
 /// Takes the random source and the call's number in its class.
@@ -11,13 +12,18 @@ type Maker = fn(&Rng, usize) -> VentCall;
 /// The class in which the case's own number also says which slice it is that gets a wrong length.
 const LENGTHS: &str = "lengths";
 
-const CLASSES: [Class<Maker>; 17] = [
+const CLASSES: [Class<Maker>; 22] = [
     class("small", 20, vent_plain::small as Maker),
     class("outcomes", 8, vent_plain::outcomes),
     class("month", 1, vent_plain::month),
     class("several devices", 2, vent_plain::several_devices),
     class("extremes", 8, vent_plain::extremes),
     class("tonne borders", 8, vent_plain::tonne_borders),
+    class("methane borders", 8, vent_methane::methane_borders),
+    class("rounding borders", 10, vent_borders::borders),
+    class("lost by rounding", 5, vent_lost::lost_by_rounding),
+    class("missing readings", 8, vent_missing::missing_readings),
+    class("wrong programs", 11, vent_told::wrong_programs),
     class("most and least", 2, vent_plain::most_and_least),
     class("years", 1, vent_plain::years),
     class("sizes", 14, vent_wrong_calls::sizes),
