@@ -19,7 +19,7 @@ const KEPT: &str = "target/independent";
 const MOST_KEPT: usize = 10;
 
 /// From this many on, every answer and every outcome must have occurred.
-const ENOUGH: usize = 2_000;
+pub const ENOUGH: usize = 2_000;
 
 /// A file with the own answer to it. `kinds` says what sort of answer it is, for the summary.
 pub struct Asked {

@@ -50,7 +50,7 @@ fn by_fractions(one: Reading) -> Litres {
 }
 
 /// Digit by digit, from ten digits downwards.
-fn whole_part(fraction: &Fraction) -> u64 {
+pub fn whole_part(fraction: &Fraction) -> u64 {
     let mut whole = 0;
     for power in (0..10).rev().map(|digits| 10_i128.pow(digits)) {
         while fraction.at_least(whole + power) {

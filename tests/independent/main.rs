@@ -66,6 +66,8 @@ mod selfcheck_limits;
 mod selfcheck_litres;
 mod selfcheck_readings;
 mod selfcheck_texts;
+mod selfcheck_vent;
+mod selfcheck_vent_calls;
 mod selfcheck_words;
 mod sheet;
 mod sound_calls;
@@ -88,6 +90,7 @@ mod vent_reading_kinds;
 mod vent_refusals;
 mod vent_solve;
 mod vent_told;
+mod vent_ways;
 mod vent_wrong_above;
 mod vent_wrong_calls;
 mod vent_wrong_litres;
@@ -128,8 +131,10 @@ const USAGE: &str = "usage:
   independent compare-exports SEED COUNT SERVER          its cmm_read_flow on generated exports
   independent pattern-sums FIRST COUNT           checksums of all good samples, in blocks of 2^20, 0 to 4095
   independent show-call SEED NUMBER              the call with this number, and the own answer to it
+  independent show-ventilation SEED NUMBER       the same of a call about ventilation air
   independent limit-ways SEED WINDOWS            the own ways of a lower limit held to each other
   independent litre-ways SEED READINGS           the own ways of an interval's litres held to each other
+  independent vent-ways SEED INTERVALS           the same for ventilation air
   independent selfcheck                          the own implementation held to document 01's numbers";
 
 fn main() -> ExitCode {
@@ -171,8 +176,10 @@ fn run(words: &[&str]) -> Option<bool> {
         ["compare-exports", seed, count, server @ ..] => compare_exports(seed, count, server),
         ["pattern-sums", first, count] => pattern_sums(first.parse().ok()?, count.parse().ok()?),
         ["show-call", seed, number] => Some(show_call(seed.parse().ok()?, number.parse().ok()?)),
+        ["show-ventilation", seed, number] => Some(show_ventilation(seed.parse().ok()?, number.parse().ok()?)),
         ["limit-ways", seed, windows] => limit_ways(seed.parse().ok()?, windows.parse().ok()?),
         ["litre-ways", seed, readings] => Some(litre_ways::run(seed.parse().ok()?, readings.parse().ok()?)),
+        ["vent-ways", seed, intervals] => Some(vent_ways::run(seed.parse().ok()?, intervals.parse().ok()?)),
         ["selfcheck"] => Some(selfcheck::run()),
         _ => None,
     }
@@ -316,4 +323,13 @@ fn show_call(seed: u64, number: usize) -> bool {
     let call = calls::generate(seed, number).call;
     let answer = quantify::quantify(&call);
     print(&format!("{call:?}\n{}", report::text(&answer)))
+}
+
+fn show_ventilation(seed: u64, number: usize) -> bool {
+    let call = vent_calls::generate(seed, number).call;
+    let text = match vent_quantify::quantify_ventilation(&call) {
+        Ok(quantified) => sheet::sheet_text(&quantified.figures.numbers()),
+        Err(refusal) => refusal.text(),
+    };
+    print(&format!("{call:?}\n{text}"))
 }

@@ -13,6 +13,7 @@ use crate::tonnes::{balance, credits, hundredths, methane_litres, tonnes};
 use crate::{compare, draw, sheet};
 use crate::{selfcheck_calls, selfcheck_correction, selfcheck_flow, selfcheck_historian};
 use crate::{selfcheck_limits, selfcheck_litres, selfcheck_readings, selfcheck_texts, selfcheck_words};
+use crate::{selfcheck_vent, selfcheck_vent_calls};
 use std::fmt::Debug;
 
 #[derive(Default)]
@@ -51,6 +52,8 @@ pub fn run() -> bool {
     selfcheck_words::run(&mut checks);
     selfcheck_historian::run(&mut checks);
     selfcheck_flow::run(&mut checks);
+    selfcheck_vent::run(&mut checks);
+    selfcheck_vent_calls::run(&mut checks);
     two_ways(&mut checks);
     println!("selfcheck: {} passed, {} failed", checks.passed, checks.failed);
     checks.failed == 0 && checks.passed > 0
