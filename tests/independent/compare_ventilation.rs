@@ -11,6 +11,7 @@ use crate::vent_call::{VentCall, SLICES};
 use crate::vent_calls::{self, Generated};
 use crate::vent_exact::unfair;
 use crate::vent_kinds::not_as_by;
+use crate::vent_lost::Nearest;
 use crate::vent_quantify::{quantify_ventilation, VentQuantified};
 use crate::{vent_kinds, vent_reading_kinds, vent_wrong_refusals};
 
@@ -25,8 +26,23 @@ pub fn wanted() -> Vec<String> {
     let refusals = [1, 2, 3, 9, 21, 22, 23].map(|number| format!("refusal {number:2}"));
     let readings = [vent_reading_kinds::wanted(), vent_reading_kinds::wanted_of_blocks()].concat();
     let wrong_refusals = vent_wrong_refusals::PROGRAMS.iter().map(|wrong| not_as_by(wrong.name));
-    let kinds = refusals.into_iter().chain(wrong_slices).chain(readings);
+    let sizes = WRONG_SIZES.iter().flat_map(|(name, sizes)| sizes.map(|size| wrong_size(name, size)));
+    let kinds = refusals.into_iter().chain(sizes).chain(wrong_slices).chain(readings);
     kinds.chain(vent_kinds::wanted()).chain(wrong_refusals).collect()
+}
+
+/// N and D that are refused, by refusal 1 and by refusal 2.
+const WRONG_SIZES: [(&str, [u32; 3]); 2] = [("N", [0, 35_137, u32::MAX]), ("D", [0, 17, u32::MAX])];
+
+fn wrong_size(name: &str, size: u32) -> String {
+    format!("{name} of {size}")
+}
+
+/// Of a call that is refused for it.
+fn sizes(call: &VentCall, refusal: &Refusal) -> Option<String> {
+    let (name, sizes) = WRONG_SIZES.get(refusal.number as usize - 1)?;
+    let size = [call.intervals, call.devices][refusal.number as usize - 1];
+    sizes.contains(&size).then(|| wrong_size(name, size))
 }
 
 fn wrong_length(slice: &str) -> String {
@@ -37,8 +53,10 @@ fn wrong_length(slice: &str) -> String {
 pub fn kinds(generated: &Generated, answer: &Answer) -> Vec<String> {
     let mut kinds = match answer {
         Err(refusal) => {
-            let number = format!("refusal {:2}", refusal.number);
-            [vec![number], vent_reading_kinds::of_call(&generated.call, refusal)].concat()
+            let mut kinds = vec![format!("refusal {:2}", refusal.number)];
+            kinds.extend(sizes(&generated.call, refusal));
+            kinds.extend(vent_reading_kinds::of_call(&generated.call, refusal));
+            kinds
         }
         Ok(quantified) => vent_kinds::of_sheet(&generated.call, quantified),
     };
@@ -56,10 +74,13 @@ fn wrong_refusals(call: &VentCall, answer: &Answer) -> Vec<&'static str> {
     vent_wrong_refusals::told_from(call, right)
 }
 
-pub fn judge(seed: u64, number: usize, library: &Library) -> Judged {
+pub fn judge(seed: u64, number: usize, library: &Library, nearest: &Nearest) -> Judged {
     let generated = vent_calls::generate(seed, number);
     let call = &generated.call;
     let answer = quantify_ventilation(call);
+    if let Ok(quantified) = &answer {
+        nearest.add(number, call, quantified);
+    }
     let difference = ask(seed, number, call, &answer, library);
     Judged { class: generated.class, kinds: kinds(&generated, &answer), difference }
 }

@@ -112,6 +112,7 @@ use limit_ways::Farthest;
 use std::io::{Read, Write};
 use std::process::ExitCode;
 use std::sync::atomic::AtomicUsize;
+use vent_lost::Nearest;
 
 const USAGE: &str = "usage:
   independent report [ROW]                       record file on standard input: the sheet, or three lines
@@ -268,7 +269,9 @@ fn compare_calls(seed: &str, count: &str, server: &[&str]) -> Option<bool> {
 
 fn compare_ventilation(seed: &str, count: &str, server: &[&str]) -> Option<bool> {
     let (seed, count, library) = (seed.parse().ok()?, count.parse().ok()?, Library::new(server)?);
-    let summary = compare::compare(count, &|number| compare_ventilation::judge(seed, number, &library));
+    let nearest = Nearest::default();
+    let summary = compare::compare(count, &|number| compare_ventilation::judge(seed, number, &library, &nearest));
+    println!("{}", nearest.text());
     Some(summary.conclude("calls", count, &compare_ventilation::wanted()))
 }
 

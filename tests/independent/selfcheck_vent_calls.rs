@@ -1,5 +1,5 @@
-//! The part of the self-check about calls of ventilation air: lengths, both sides of each range with its number, which of
-//! several decides, a second time by definition; and that a run of the least length meets all that is wanted.
+//! The part of the self-check about calls of ventilation air: lengths, both sides of each range with its number, which
+//! of several decides, a second time by definition; and that a run of the least length meets all that is wanted.
 
 use crate::compare::ENOUGH;
 use crate::compare_ventilation::{kinds, wanted};

@@ -1,6 +1,6 @@
 //! The borders of every rounding of ventilation air, and calls that lie on them: readings whose volume or methane lies
-//! on a whole litre or right beside one, where one litre more or fewer gives another sheet, or another outcome. They are
-//! solved for and come in turn, whatever is drawn.
+//! on a whole litre or right beside one, where one litre more or fewer gives another sheet, or another outcome. They
+//! are solved for and come in turn, whatever is drawn.
 
 use crate::rng::Rng;
 use crate::vent_air::{Air, Round, PPM_MAX, WHOLE};

@@ -1,6 +1,6 @@
 //! What an accepted call about ventilation air shows, for the summary of a run and for what a long run must have met:
-//! outcomes, borders of roundings, of methane and of tonnes, missing readings, wrong programs that are told, and how far
-//! the tonnes fall short.
+//! outcomes, borders of roundings, of methane and of tonnes, missing readings, wrong programs that are told, and how
+//! far the tonnes fall short.
 
 use crate::vent_borders::{BORDERS, CHANGES};
 use crate::vent_call::{Interval, VentCall};

@@ -1,7 +1,7 @@
 //! Calls about ventilation air that lose nearly all that rounding can lose: where demand 3 comes nearest to its limit.
-//! Either stream loses less than 1.02 litres of methane. It nearly does where ppm is just below 20,000, litres × ppm one
-//! millionth away from a whole litre, and the volume just beside a litre: before the next one in the inlet, after the
-//! last one in the exhaust. Both together are 24.83 g, of 25.
+//! Either stream loses less than 1.02 litres of methane. It nearly does where ppm is just below 20,000, litres × ppm
+//! one millionth away from a whole litre, and the volume just beside a litre: before the next one in the inlet, after
+//! the last one in the exhaust. Both together are 24.83 g, of 25.
 
 use crate::litre_borders::common;
 use crate::litre_reading::{PRESSURES, TEMPS};
@@ -12,8 +12,9 @@ use crate::vent_call::{Interval, VentCall};
 use crate::vent_draw::any_temp;
 use crate::vent_exact::{claim, VentClaim};
 use crate::vent_plain::{fuel_down_to, to_tonne_border};
-use crate::vent_quantify::quantify_ventilation;
+use crate::vent_quantify::{quantify_ventilation, VentQuantified};
 use crate::vent_solve::OF_FLOW_1;
+use std::sync::{Mutex, OnceLock};
 
 use Round::{Down, Up};
 
@@ -53,13 +54,19 @@ fn lost_air(rng: &Rng, round: Round, ppm: u16, volume: u64) -> Air {
     std::iter::repeat_with(draw).flatten().find(|&air| is_nearly_all(round, air)).unwrap()
 }
 
-/// An interval that loses nearly all that it can. The inlet has more methane than the exhaust.
-pub fn lost(rng: &Rng) -> Interval {
-    let (of_inlet, of_exhaust) = (rng.pick(&PPM), rng.pick(&PPM));
+/// Litres of air, one millionth away in both streams, of which the inlet has no less methane than the exhaust.
+fn volumes(of_inlet: u16, of_exhaust: u16) -> (u64, u64) {
     let (mut inlet, exhaust) = (one_away(Down, of_inlet), one_away(Up, of_exhaust));
     while Down.methane(inlet, of_inlet) < Up.methane(exhaust, of_exhaust) {
         inlet += WHOLE;
     }
+    (inlet, exhaust)
+}
+
+/// An interval that loses nearly all that it can.
+pub fn lost(rng: &Rng) -> Interval {
+    let (of_inlet, of_exhaust) = (rng.pick(&PPM), rng.pick(&PPM));
+    let (inlet, exhaust) = volumes(of_inlet, of_exhaust);
     Interval {
         inlet: lost_air(rng, Down, of_inlet, inlet),
         exhaust: lost_air(rng, Up, of_exhaust, exhaust),
@@ -76,13 +83,13 @@ fn worst_air(round: Round, volume: u64) -> Air {
     all.flatten().max_by(|a, b| lost(a).total_cmp(&lost(b))).unwrap()
 }
 
-/// With as little air as can be one millionth away, the interval that loses most.
+/// With as little air as can be one millionth away, the interval that loses most. It is looked for once.
 pub fn worst() -> Interval {
-    let (mut inlet, exhaust) = (one_away(Down, 19_999), one_away(Up, 19_999));
-    while Down.methane(inlet, 19_999) < Up.methane(exhaust, 19_999) {
-        inlet += WHOLE;
-    }
-    Interval { inlet: worst_air(Down, inlet), exhaust: worst_air(Up, exhaust), status: 1 }
+    static WORST: OnceLock<Interval> = OnceLock::new();
+    *WORST.get_or_init(|| {
+        let (inlet, exhaust) = volumes(19_999, 19_999);
+        Interval { inlet: worst_air(Down, inlet), exhaust: worst_air(Up, exhaust), status: 1 }
+    })
 }
 
 /// What an interval loses, in mg: litres of both streams, at 14,007 mg less their CO2.
@@ -98,10 +105,11 @@ pub fn before_next_tonne(call: &mut VentCall) {
     fuel_down_to(call, reduction, reduction - (reduction + 1).rem_euclid(MG_PER_TONNE));
 }
 
-/// Two cases of three go beyond 24.8 g. The others have any fuel, or lie on other borders of a tonne.
+/// Two cases of three go beyond 24.8 g; the others lie on other borders of a tonne. At times all are the worst.
 pub fn lost_by_rounding(rng: &Rng, case: usize) -> VentCall {
     let (n, devices) = rng.pick(&[(1, 1), (2, 1), (40, 1), (1, 3), (2, 16)]);
-    let all: Vec<Interval> = (0..n * devices).map(|_| lost(rng)).collect();
+    let draw = |_| if case % 10 == 0 { worst() } else { lost(rng) };
+    let all: Vec<Interval> = (0..n * devices).map(draw).collect();
     let mut call = VentCall::of(devices, &all, &[]);
     if case % 3 < 2 {
         before_next_tonne(&mut call);
@@ -127,4 +135,30 @@ pub fn worst_text() -> String {
         format!("{n} of the worst: short by 1 t and {beyond} mg, {:.3} mg each", beyond as f64 / n as f64)
     };
     format!("worst, {:.4} mg: {worst:?}\n{}", lost_mg(worst), [1, 64, 2_976, 35_136].map(one).join("\n"))
+}
+
+/// The call of a run that comes nearest to what demand 3 allows: mg that it is short by beyond the tonne, for each
+/// counted interval, and its number.
+#[derive(Default)]
+pub struct Nearest(Mutex<(f64, usize)>);
+
+impl Nearest {
+    /// Takes note of an accepted call. Only few can lose much: short ones just below a whole tonne.
+    pub fn add(&self, number: usize, call: &VentCall, quantified: &VentQuantified) {
+        let (mg, counted) = (quantified.figures.reduction_mg, quantified.figures.counted);
+        if (mg + 1).rem_euclid(MG_PER_TONNE) > 0 || counted == 0 || call.entries() > 256 {
+            return;
+        }
+        let claim = claim(call, &quantified.outcome, quantified.figures.tonnes);
+        let each = (claim.shortfall_mg() - MG_PER_TONNE) as f64 / counted as f64;
+        let mut nearest = self.0.lock().unwrap();
+        if each > nearest.0 || (each == nearest.0 && number < nearest.1) {
+            *nearest = (each, number);
+        }
+    }
+
+    pub fn text(self) -> String {
+        let (each, number) = self.0.into_inner().unwrap();
+        format!("nearest to 25 g an interval: {each:.3} mg beyond the tonne, by number {number}")
+    }
 }

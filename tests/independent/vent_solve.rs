@@ -74,7 +74,7 @@ pub fn large_with_rest(rng: &Rng, rest: Rest) -> Air {
     }
 }
 
-/// Air of about so many litres, from which a pressure or two are tried. Nothing if its flow or pressure is not in range.
+/// Air of about so many litres, or nothing if no flow has so many or the pressure is not in range.
 fn about(rng: &Rng, volume: u64) -> Option<Air> {
     let (least, most) = (volume.div_ceil(OF_FLOW_1.1 + 1).max(1), (volume / OF_FLOW_1.0).min(FLOW_MAX as u64));
     if least > most {

@@ -103,8 +103,8 @@ impl Tally {
         None
     }
 
-    /// Of all intervals some are counted, some are not, some have the same in both streams; every wrong program is told;
-    /// and no stream has lost 1.02 litres.
+    /// Of all intervals some are counted, some are not, some have the same in both streams; every wrong program is
+    /// told; and no stream has lost 1.02 litres.
     pub fn is_whole(&self) -> bool {
         let all_sorts = (1..self.intervals).contains(&self.above) && self.equal > 0;
         let lost = self.most_lost.iter().all(|lost| (1.0197..1.02).contains(lost));
