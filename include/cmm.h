@@ -21,15 +21,15 @@
  * text.
  *
  *   no.  when                                                            given by
- *    1   intervals not in 1 .. 35,136                                    cmm_quantify, cmm_read_record
- *    2   devices not in 1 .. 16                                          cmm_quantify, cmm_read_record
+ *    1   intervals not in 1 .. 35,136                                    both quantifications, cmm_read_record
+ *    2   devices not in 1 .. 16                                          both quantifications, cmm_read_record
  *    3   an array is not exactly as long as intervals and devices ask,
- *        or quantity and factor differ in length                         cmm_quantify
+ *        or quantity and factor differ in length                         both quantifications
  *    4   mine not 0 or 1                                                 cmm_quantify
  *    5   a kind not in 1 .. 6                                            cmm_quantify
  *    6   kind 6 underground                                              cmm_quantify
  *    7   a check's count, position or drift is wrong                     cmm_quantify
- *    9   more than 64 fuel lines, or a fuel number above its range       cmm_quantify
+ *    9   more than 64 fuel lines, or a fuel number above its range       both quantifications
  *   10   the text is no sheet                                            cmm_read_sheet
  *   11   the buffer is too short for the sheet                           cmm_write_sheet
  *   12   a line of the record file is wrong                              cmm_read_record
@@ -41,9 +41,12 @@
  *   18   a CH4 content is neither in its range nor its missing mark      cmm_quantify
  *   19   a temperature is neither in its range nor its missing mark      cmm_quantify
  *   20   a pressure is neither in its range nor its missing mark         cmm_quantify
- *   21   a status is not in its range                                    cmm_quantify
+ *   21   a status is not in its range                                    both quantifications
+ *   22   an inlet reading is neither in its range nor its missing mark    cmm_quantify_ventilation
+ *   23   an exhaust reading is neither in its range nor its missing mark  cmm_quantify_ventilation
  *
- * cmm_quantify tests 1 to 7, then 17 to 21, then 9, and gives the first that applies. 17 to 21 are one test: of the first device and
+ * Both quantifications are cmm_quantify and cmm_quantify_ventilation. The first tests 1 to 7, then 17 to 21, then 9, and gives the first
+ * that applies; the second 1 to 3, then 22, 23 and 21, then 9. 17 to 21 are one test: of the first device and
  * interval that has a wrong reading the first wrong one, in the order of these numbers, is given. 8 was any wrong reading's up to
  * version 3 and is never given again. cmm_read_flow tests 14 and then sample after sample.
  */
@@ -55,7 +58,7 @@
 
 /* The version of this header: the number of the latest note in docs/landings. cmm_version() gives the library's own, and a host that
  * finds the two different must not call it: arrays may have other lengths. README.md lists the versions that changed figures. */
-#define CMM_VERSION 7
+#define CMM_VERSION 8
 
 #ifdef __cplusplus
 extern "C" {
@@ -78,6 +81,7 @@ enum {
     CMM_KIND_MOST = 6,
     CMM_FLOW_MOST = 30000,
     CMM_CONTENT_MOST = 10000,
+    CMM_PPM_MOST = 20000, /* of ventilation air */
     CMM_TEMP_LEAST = -4000,
     CMM_TEMP_MOST = 10000,
     CMM_PRESS_LEAST = 50000,
@@ -98,6 +102,7 @@ enum {
 /* Missing marks of the series. A status has none: 3 says that there is no thermocouple record. */
 #define CMM_FLOW_MISSING UINT16_C(65535)
 #define CMM_CONTENT_MISSING UINT16_C(65535)
+#define CMM_PPM_MISSING UINT16_C(65535)
 #define CMM_TEMP_MISSING INT16_MIN
 #define CMM_PRESS_MISSING UINT32_C(0)
 
@@ -175,6 +180,41 @@ uint64_t cmm_quantify(
     uint8_t *outcome, size_t outcome_length,
     uint16_t *flow_used, size_t flow_used_length,
     uint16_t *content_used, size_t content_used_length,
+    uint64_t accounts[CMM_ACCOUNTS], uint64_t amounts[CMM_AMOUNTS], int64_t balances[CMM_BALANCES], uint64_t at[2]);
+
+/* Quantifies the records of oxidisers for ventilation air. With N intervals and D devices, of each device two streams, what enters it
+ * and what leaves it:
+ *
+ *   inlet_flow, exhaust_flow     D N, device 0's intervals first: 10 m3, 0 .. 30,000, or CMM_FLOW_MISSING
+ *   inlet_ppm, exhaust_ppm       D N: CH4, ppm by volume, 0 .. 20,000, or CMM_PPM_MISSING
+ *   inlet_temp, exhaust_temp     D N: 0.01 degrees Celsius, -4,000 .. 10,000, or CMM_TEMP_MISSING
+ *   inlet_press, exhaust_press   D N: absolute, Pa, 50,000 .. 300,000, or CMM_PRESS_MISSING
+ *   status        D N: 0 stopped, 1 or 2 running, 3 no record
+ *   quantity, factor             fuel lines, as for cmm_quantify
+ *   outcome       D N, written: 0 counted, 3 stopped, 4 no record of status, 5 a reading missing, 6 more methane out than in; the first
+ *                 of 3 to 6 that applies. Nothing is replaced.
+ *   accounts      written: each device's account, as for cmm_quantify; its litres are the inlet's methane, what is destroyed, and the
+ *                 exhaust's methane (in the place of the uncombusted). Inlet is destroyed and exhaust.
+ *   amounts, balances   written: the sheet's figures. CMM_METHANE_L is the inlet's, CMM_UNCOMBUSTED_L the exhaust's, CMM_REPLACED 0.
+ *   at            written, always: the device and the place of what is refused, 0 and 0 where nothing is. The place is the interval
+ *                 for 21 to 23, the entry for 9 (64 for too many lines), else 0. The device is 0 for 1 to 3 and for 9.
+ *
+ * An interval's litres round down for the inlet and up for the exhaust, so the same readings in both streams are outcome 6 in nearly
+ * every case. Gives the refusal's number, 1 to 3, 9 or 21 to 23, or 0. A refused call writes `at` and nothing else. */
+uint64_t cmm_quantify_ventilation(
+    uint32_t intervals, uint32_t devices,
+    const uint16_t *inlet_flow, size_t inlet_flow_length,
+    const uint16_t *inlet_ppm, size_t inlet_ppm_length,
+    const int16_t *inlet_temp, size_t inlet_temp_length,
+    const uint32_t *inlet_press, size_t inlet_press_length,
+    const uint16_t *exhaust_flow, size_t exhaust_flow_length,
+    const uint16_t *exhaust_ppm, size_t exhaust_ppm_length,
+    const int16_t *exhaust_temp, size_t exhaust_temp_length,
+    const uint32_t *exhaust_press, size_t exhaust_press_length,
+    const uint8_t *status, size_t status_length,
+    const uint32_t *quantity, size_t quantity_length,
+    const uint32_t *factor, size_t factor_length,
+    uint8_t *outcome, size_t outcome_length,
     uint64_t accounts[CMM_ACCOUNTS], uint64_t amounts[CMM_AMOUNTS], int64_t balances[CMM_BALANCES], uint64_t at[2]);
 
 /* Writes a sheet's text, fifteen key=value lines, of any figures, at the start of `buf`, and changes no byte after its end.

@@ -13,7 +13,7 @@
 
 #include "../../include/cmm.h"
 
-enum { QUANTIFY, REPORT, READ_SHEET, WRITE_SHEET, READ_FLOW, WORDS = 40 };
+enum { QUANTIFY, REPORT, READ_SHEET, WRITE_SHEET, READ_FLOW, QUANTIFY_VENTILATION, WORDS = 40 };
 
 struct request {
     uint64_t function, size, word[WORDS];
@@ -69,6 +69,25 @@ static uint64_t quantify(const uint64_t *w, uint8_t *memory)
                         ARRAY(uint64_t, 31), ARRAY(int64_t, 32), ARRAY(uint64_t, 33)); /* amounts, balances, at */
 }
 
+static uint64_t quantify_ventilation(const uint64_t *w, uint8_t *memory)
+{
+    return cmm_quantify_ventilation((uint32_t)w[0], (uint32_t)w[1],
+                                    ARRAY(uint16_t, 2), w[3],   /* inlet: flow */
+                                    ARRAY(uint16_t, 4), w[5],   /* ppm */
+                                    ARRAY(int16_t, 6), w[7],    /* temp */
+                                    ARRAY(uint32_t, 8), w[9],   /* press */
+                                    ARRAY(uint16_t, 10), w[11], /* exhaust: flow */
+                                    ARRAY(uint16_t, 12), w[13], /* ppm */
+                                    ARRAY(int16_t, 14), w[15],  /* temp */
+                                    ARRAY(uint32_t, 16), w[17], /* press */
+                                    ARRAY(uint8_t, 18), w[19],  /* status */
+                                    ARRAY(uint32_t, 20), w[21], /* quantity */
+                                    ARRAY(uint32_t, 22), w[23], /* factor */
+                                    ARRAY(uint8_t, 24), w[25],  /* outcome */
+                                    ARRAY(uint64_t, 29),        /* accounts */
+                                    ARRAY(uint64_t, 26), ARRAY(int64_t, 27), ARRAY(uint64_t, 28)); /* amounts, balances, at */
+}
+
 static uint64_t report(const uint64_t *w, uint8_t *memory)
 {
     return cmm_report(ARRAY(uint8_t, 0), w[1],    /* t */
@@ -88,6 +107,7 @@ static uint64_t called(const struct request *r, uint8_t *memory)
     const uint64_t *w = r->word;
     switch (r->function) {
     case QUANTIFY: return quantify(w, memory);
+    case QUANTIFY_VENTILATION: return quantify_ventilation(w, memory);
     case REPORT: return report(w, memory);
     case READ_SHEET:
         return cmm_read_sheet(ARRAY(uint8_t, 0), w[1], ARRAY(uint64_t, 2), ARRAY(int64_t, 3), ARRAY(uint64_t, 4));
