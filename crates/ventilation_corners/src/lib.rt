@@ -1,0 +1,1 @@
+// No code: the definitions of ventilation air computed at their corners (specs/).
