@@ -32,6 +32,8 @@ static const struct {
     { 19, "the temperature is out of range" },
     { 20, "the pressure is out of range" },
     { 21, "the status is out of range" },
+    { 22, "an inlet reading is out of range" },
+    { 23, "an exhaust reading is out of range" },
 };
 
 /* A wrong line is shown so far; one that is longer than any may be (12.5) is not said to lack its end. */

@@ -21,7 +21,7 @@ abbrev pub countIn : Account → ℕ → ℕ
 countIn a j = getD (a .outcomes) j 0
 
 -- a device's account as numbers: how often each outcome comes (rule 8.6), then the litres of methane, those destroyed and
--- those left uncombusted (rules 9.3 to 9.5, rule 19.7)
+-- those left uncombusted (rules 9.3 to 9.5, rule 19.8)
 abbrev pub numbersOf : Account → List ℕ
 numbersOf a = a .outcomes ++ (a .methane ∷ a .destroyed ∷ a .uncombusted ∷ [])
 

@@ -41,7 +41,7 @@ pub record Accounted (intervals devices : ℕ) (outcome accounts : List ℕ) (f 
   pub counts : (d : ℕ) → d < devices → (j : ℕ) → j < outcomeKinds
       → countGiven accounts d j ≡ countOf intervals (λ k. outcomeGiven outcome (d * intervals + k)) j
   pub counts-add : (d : ℕ) → d < devices → sumTo outcomeKinds (countGiven accounts d) ≡ intervals
-  -- each litre is destroyed or uncombusted, once, of each device and of the sheet (rules 9.6 and 19.7)
+  -- each litre is destroyed or uncombusted, once, of each device and of the sheet (rules 9.6 and 19.8)
   pub partition : (d : ℕ) → d < devices → destroyedGiven accounts d + uncombustedGiven accounts d ≡ methaneGiven accounts d
   pub sheet-partition : f .«destroyed_l» + f .«uncombusted_l» ≡ f .«methane_l»
   -- the sheet's litres are the sums of the accounts' (rule 11.3)

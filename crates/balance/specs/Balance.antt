@@ -80,7 +80,7 @@ unfoldable pub creditsOf : ℤ → ℕ
 creditsOf (pos n) = n
 creditsOf (negsuc n) = 0
 
--- the most methane litres that any device can have: 35,136 intervals of an oxidiser, 22,336,255 each (rule 19.11). Of drainage
+-- the most methane litres that any device can have: 35,136 intervals of an oxidiser, 22,336,255 each (rule 19.12). Of drainage
 -- gas it is 392,403,310,272 (rule 9.14).
 abbrev pub deviceMost : ℕ
 deviceMost = 784806655680

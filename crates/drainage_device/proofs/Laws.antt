@@ -318,12 +318,16 @@ module _ (r : Records) (x : Right r) where
   unfolding sumsOf methaneOf
   sums-methane = sumTo-ext (intervalsOf r) (λ i. entryAt (heldOf r) i .litres) (litresAt r) litres-is
 
-  -- a year's litres of a device
-  pub device-most : methaneOf r ≤ deviceMost
-  device-most =
-      subst (λ (m : ℕ). m ≤ deviceMost) sums-methane
+  -- rule 9.14: a year's litres of a device, 35,136 intervals of 11,168,127
+  pub year-most : methaneOf r ≤ 392403310272
+  year-most =
+      subst (λ (m : ℕ). m ≤ 392403310272) sums-methane
       (le-trans (methane-most (heldOf r) (intervalsOf r) ready)
       (let z : intervalsOf r * litresMost ≤ 35136 * litresMost = mul-le-mul-right litresMost (x .few) in omega arith))
+
+  -- which is less than any device can have
+  pub device-most : methaneOf r ≤ deviceMost
+  device-most = omega (arith, year-most)
 
   -- the last pass, and the account made of its sums
   pub filled : (o f c : List ℕ) (s : Sums) (destroyed uncombusted : ℕ) → Finished (heldOf r) o f c s

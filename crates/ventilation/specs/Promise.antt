@@ -25,12 +25,12 @@ unfoldable pub answerBy : Verdict → Call → Answer
 answerBy Clean c = Accepted (figuresOf c)
 answerBy (Offended r) c = Refused r
 
--- Demand 2 (rules 19.5 and 19.7): the row and the accounts of an accepted call; a refused one leaves every entry
+-- Demand 2 (rules 19.7 and 19.8): the row and the accounts of an accepted call; a refused one leaves every entry
 unfoldable pub resultsBy : Verdict → Call → Results → Results
 resultsBy Clean c before = resultsOf (lentIn c) (c .devices) before
 resultsBy (Offended r) c before = before
 
--- the readings used (rule 19.10): those lent, of the intervals that the given row counts
+-- the readings used (rule 19.11): those lent, of the intervals that the given row counts
 unfoldable pub usedIn : Call → Results → Used
 usedIn c r =
     record {
@@ -52,10 +52,10 @@ pub record Settled (c : Call) (before after : Results) (a : Answer) : Type 0 whe
   -- told with the number, the device and the place of the first offended step's first offender
   pub told : Tells (stepsOf c) (toldIn a)
   -- an accepted call's row, accounts and figures agree with each other; inlet is destroyed and exhaust, of each device and of the
-  -- sheet (rule 19.7)
+  -- sheet (rule 19.8)
   pub accounted : (f : Figures) → a ≡ Accepted f → Accounted (c .intervals) (c .devices) (after .outcome) (after .accounts) f
-  -- nothing is replaced (rule 19.5)
+  -- nothing is replaced (rule 19.7)
   pub none-replaced : (f : Figures) → a ≡ Accepted f → f .replaced ≡ 0
-  -- Demand 3 (rule 19.10): the tonnes never exceed the exact reduction over the readings used, and fall short of it by less than 1
+  -- Demand 3 (rule 19.11): the tonnes never exceed the exact reduction over the readings used, and fall short of it by less than 1
   -- tonne and 25 g for each device-interval that the sheet counts
   pub fair : (f : Figures) → a ≡ Accepted f → Fair (exactReduction (usedIn c after)) (f .tonnes) (promised (f .counted))

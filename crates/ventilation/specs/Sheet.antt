@@ -1,4 +1,4 @@
--- The sheet's figures of ventilation air (rule 19.9): the lines of drainage gas, from the oxidisers' accounts.
+-- The sheet's figures of ventilation air (rule 19.10): the lines of drainage gas, from the oxidisers' accounts.
 -- Assumes nothing.
 use Prim.Native.Nat.{ℕ}
 use Rattle.figures.specs.declared.Figures.{Figures}
@@ -14,6 +14,6 @@ lentIn c = record { intervals = c .intervals; air = c .air }
 abbrev pub fuelIn : Call → ℕ
 fuelIn c = fuelSum (c .fuel)
 
--- rule 19.9: the figures of an accepted call
+-- rule 19.10: the figures of an accepted call
 unfoldable pub figuresOf : Call → Figures
 figuresOf c = figuresFrom (c .intervals) (c .devices) (totalsOver (c .devices) (accountIn (lentIn c))) (fuelIn c)

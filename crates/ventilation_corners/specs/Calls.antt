@@ -43,6 +43,6 @@ densest = gasOf 30000 20000 (negsuc 3999) 300000
 abbrev pub interval : Gas → Gas → ℕ → Interval
 interval inlet exhaust status = record { inlet = inlet; exhaust = exhaust; status = status }
 
--- rule 19.12: 300,000 m3 with 10,000 ppm in and 100 ppm out, and 700 kg of CO2 from fuel
+-- rule 19.13: 300,000 m3 with 10,000 ppm in and 100 ppm out, and 700 kg of CO2 from fuel
 abbrev pub worked : Call
 worked = callOf (interval (standard 30000 10000) (standard 30000 100) 1 ∷ []) (1000 ∷ []) (700000 ∷ [])

@@ -27,7 +27,7 @@ use Rattle.ventilation_corners.specs.Calls.{Interval, callOf, standard, 
 abbrev after : Call → Results
 after c = resultsOf (lentIn c) 1 (record { outcome = []; accounts = replicate 208 0 })
 
--- rule 19.12: the worked example is accepted, and its account and its sheet
+-- rule 19.13: the worked example is accepted, and its account and its sheet
 accepted : judged worked ≡ Clean
 unfolding judged verdictOf intervalsStep devicesStep lengthsOf lengthsStep wrongReading readingsStep wrongFuel fuelsStep
 accepted = refl

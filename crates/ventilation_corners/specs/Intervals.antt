@@ -26,7 +26,7 @@ both-none : (entryOf (standard 0 20000) (standard 0 20000) 1 ≡ entry 0 0 0) ×
 unfolding entryOf outcomeOf inletLitres exhaustLitres methaneLitres methaneLitresIn hundredthsOf correctionDown methaneLitresUp methaneLitresUpIn correctionUp
 both-none = (refl, refl)
 
--- the same readings in both streams: 22,336,255 l in, rounded down, and 22,336,256 out, rounded up (rule 19.11)
+-- the same readings in both streams: 22,336,255 l in, rounded down, and 22,336,256 out, rounded up (rule 19.12)
 same-readings : (inletLitres densest ≡ 22336255) × (exhaustLitres densest ≡ 22336256) × (entryOf densest densest 1 ≡ entry 6 0 0)
 unfolding entryOf outcomeOf inletLitres exhaustLitres methaneLitres methaneLitresIn hundredthsOf correctionDown methaneLitresUp methaneLitresUpIn correctionUp
 same-readings = (refl, refl, refl)

@@ -23,14 +23,14 @@ entryAt a k = entryOf (gasAt (a .inlet) k) (gasAt (a .exhaust) k) (getD (a .stat
 abbrev pub outcomeAt : Air → ℕ → ℕ
 outcomeAt a k = entryAt a k .outcome
 
--- rule 19.7: the methane that enters, and that leaves, over the counted intervals
+-- rule 19.8: the methane that enters, and that leaves, over the counted intervals
 unfoldable pub inletOf : Air → ℕ
 inletOf a = sumTo (intervalsOf a) (λ k. entryAt a k .inlet)
 
 unfoldable pub exhaustOf : Air → ℕ
 exhaustOf a = sumTo (intervalsOf a) (λ k. entryAt a k .exhaust)
 
--- how many of its intervals have each outcome; rule 19.7: its litres, those destroyed being the difference
+-- how many of its intervals have each outcome; rule 19.8: its litres, those destroyed being the difference
 unfoldable pub accountOf : Air → Account
 accountOf a =
     record {

@@ -1,4 +1,4 @@
--- One interval of an oxidiser: the methane that enters and leaves it, its outcome (rule 19.5), and what it then counts for.
+-- One interval of an oxidiser: the methane that enters and leaves it, its outcome (rule 19.7), and what it then counts for.
 -- Assumes nothing.
 use Prim.Native.Nat.{ℕ, _+_, _*_, _/_}
 use mathlib.Core.Path.{_≡_, refl}
@@ -21,7 +21,7 @@ inletLitres g = methaneLitres (g .flow) (g .ppm) (g .temp) (g .press)
 unfoldable pub exhaustLitres : Gas → ℕ
 exhaustLitres g = methaneLitresUp (g .flow) (g .ppm) (g .temp) (g .press)
 
--- Rule 19.5: the first line that applies, from top to bottom: stopped, unrecorded, a reading missing, exhaust above inlet in
+-- Rule 19.7: the first line that applies, from top to bottom: stopped, unrecorded, a reading missing, exhaust above inlet in
 -- rounded litres. `lacking` is that one of the eight readings is missing.
 unfoldable pub outcomeOf : ℕ → Bool → ℕ → ℕ → ℕ
 outcomeOf status lacking inlet exhaust =

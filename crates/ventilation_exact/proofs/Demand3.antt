@@ -1,6 +1,6 @@
 -- Demand 3 in ventilation air: the reported tonnes are never above the exact reduction, and short of it by less than a tonne
 -- and the promised grams. First over an interval's loss, the factor of unburnt methane and the mg, then with those of rule
--- 19.10.
+-- 19.11.
 -- Assumes nothing.
 use Prim.Native.Nat.{ℕ, _-_, _*_, _≤_, _<_}
 use mathlib.Core.Path.{_≡_, refl, sym, _∙_, subst}
@@ -92,7 +92,7 @@ inlet-none : (u : Used) (d : ℕ) → countedOf u d ≡ 0 → reportedInlet u d 
 unfolding reportedInlet countedOf
 inlet-none u d = none-counted (u .intervals) (u .counted d) _
 
--- rule 19.10, for a caller whose litres equal the reported ones device by device, and who counts the same device-intervals
+-- rule 19.11, for a caller whose litres equal the reported ones device by device, and who counts the same device-intervals
 pub demand-3-of : (u : Used) → AllPossible u → (inlet exhaust : ℕ → ℕ) (counted : ℕ)
     → ((d : ℕ) → d < u .devices → reportedInlet u d ≡ inlet d) → ((d : ℕ) → d < u .devices → reportedExhaust u d ≡ exhaust d)
     → ((d : ℕ) → d < u .devices → exhaust d ≤ inlet d) → countedAll u ≡ counted

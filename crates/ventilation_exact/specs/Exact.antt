@@ -1,4 +1,4 @@
--- The exact reduction of ventilation air (rule 19.10), beside what is reported of the same readings, and the distance that may
+-- The exact reduction of ventilation air (rule 19.11), beside what is reported of the same readings, and the distance that may
 -- lie between the two.
 -- Assumes nothing.
 use Prim.Native.Nat.{ℕ, _+_, _-_, _*_, _≤_, _<_}
@@ -53,12 +53,12 @@ exactInlet u = exactSum u (u .inlet)
 unfoldable pub exactExhaust : Used → ℕ → Fraction
 exactExhaust u = exactSum u (u .exhaust)
 
--- rule 19.10: a device's baseline less CO2 and uncombusted, where what enters and does not leave is destroyed
+-- rule 19.11: a device's baseline less CO2 and uncombusted, where what enters and does not leave is destroyed
 unfoldable pub exactDeviceMg : ℕ → Fraction → Fraction → Fraction
 exactDeviceMg unburnt inlet exhaust =
     exactUnburntMg unburnt inlet -ᶠ exactCarbonMg (inlet -ᶠ exhaust) -ᶠ exactUnburntMg unburnt exhaust
 
--- rule 19.10: over all devices, less the fuel, in mg
+-- rule 19.11: over all devices, less the fuel, in mg
 unfoldable pub exactReduction : Used → Fraction
 exactReduction u =
     sumᶠ (u .devices) (λ d. exactDeviceMg methaneMg (exactInlet u d) (exactExhaust u d))
@@ -66,7 +66,7 @@ exactReduction u =
 
 -- ---- reported
 
--- rule 19.7: a device's litres as reported, the inlet's rounded down in each interval, the exhaust's up
+-- rule 19.8: a device's litres as reported, the inlet's rounded down in each interval, the exhaust's up
 unfoldable pub reportedInlet : Used → ℕ → ℕ
 reportedInlet u d =
     sumTo (u .intervals) (λ k. let g : Gas = u .inlet d k in pick (u .counted d k) (methaneLitres (g .flow) (g .ppm) (g .temp) (g .press)) 0)
@@ -75,7 +75,7 @@ unfoldable pub reportedExhaust : Used → ℕ → ℕ
 reportedExhaust u d =
     sumTo (u .intervals) (λ k. let g : Gas = u .exhaust d k in pick (u .counted d k) (methaneLitresUp (g .flow) (g .ppm) (g .temp) (g .press)) 0)
 
--- rules 19.8 and 19.9: the tonnes of devices with so many litres of inlet and exhaust, CO2 rounded up for each of them
+-- rules 19.9 and 19.10: the tonnes of devices with so many litres of inlet and exhaust, CO2 rounded up for each of them
 unfoldable pub tonnesWith : ℕ → (ℕ → ℕ) → (ℕ → ℕ) → ℕ → ℤ
 tonnesWith devices inlet exhaust fuel =
     tonnesOf (equation1
@@ -86,14 +86,14 @@ tonnesWith devices inlet exhaust fuel =
 
 -- ---- the distance between them
 
--- rule 19.10: 25 grams for each counted device-interval, in mg, and none for a device
+-- rule 19.11: 25 grams for each counted device-interval, in mg, and none for a device
 abbrev pub intervalMg : ℕ
 intervalMg = 25000
 
 unfoldable pub promised : ℕ → ℕ
 promised counted = intervalMg * counted
 
--- rule 19.12: one interval of an oxidiser at standard conditions, 300,000 m3 of air with 10,000 ppm in and 100 ppm out, and 700 kg
+-- rule 19.13: one interval of an oxidiser at standard conditions, 300,000 m3 of air with 10,000 ppm in and 100 ppm out, and 700 kg
 -- of CO2 from fuel: 35,453,067,500 mg to the last digit, 35 tonnes
 example : Used
 example =

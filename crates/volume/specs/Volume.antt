@@ -72,7 +72,7 @@ hundredthsMost = 1116812781
 abbrev pub litresMost : ℕ
 litresMost = 11168127
 
--- rule 19.11: of ventilation air, in litres of methane rounded down; rounded up it is one more
+-- rule 19.12: of ventilation air, in litres of methane rounded down; rounded up it is one more
 abbrev pub airMost : ℕ
 airMost = 22336255
 
@@ -114,7 +114,7 @@ little : methaneLitresIn 300 4999 ≡ 1
 unfolding methaneLitresIn
 little = refl
 
--- rule 19.11: 300,000 m3 of air with 20,000 ppm at -40.00 °C and 300,000 Pa, down and up
+-- rule 19.12: 300,000 m3 of air with 20,000 ppm at -40.00 °C and 300,000 Pa, down and up
 air-at-most : methaneLitres 30000 20000 (negsuc 3999) 300000 ≡ airMost
 unfolding methaneLitres methaneLitresIn hundredthsOf correctionDown
 air-at-most = refl
