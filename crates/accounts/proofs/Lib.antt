@@ -1,4 +1,5 @@
 pub mod Adding
+pub mod Answers
 pub mod Booking
 pub mod Burning
 pub mod Counting

@@ -15,7 +15,8 @@ use Rattle.figures.specs.declared.Figures.{Figures}
 use Rattle.accounts.specs.declared.Answer.the-variants.{Accepted}
 use Rattle.drainage.specs.Sheet.{lentIn, figuresOf}
 use Rattle.drainage.specs.Promise.{answerBy, resultsBy, usedIn, Settled}
-use Rattle.drainage.proofs.Settling.{possible, tonnes-are, same-figures, never}
+use Rattle.accounts.proofs.Answers.{same-figures, never}
+use Rattle.drainage.proofs.Settling.{possible, tonnes-are}
 
 pub call-never-lower : (c : Call) (before after : Results) (f : Figures) → Settled c before after (Accepted f)
     → earlierTonnes (usedIn c after) ≤ℤ f .tonnes

@@ -20,6 +20,7 @@ use Rattle.accounts.specs.Totals.{countedIn, totalsOver}
 use Rattle.accounts.specs.Sheet.{fuelSum, figuresFrom, toldIn}
 use Rattle.accounts.specs.Accounted.{outcomeGiven, Accounted}
 use Rattle.accounts.proofs.Adding.{moderate}
+use Rattle.accounts.proofs.Answers.{same-figures, never}
 use Rattle.accounts.proofs.Given.{counted-in, accounted}
 use Rattle.drainage_exact.specs.Exact.{Possible, exactReduction, promised, reportedQ, reportedTonnes}
 use Rattle.fractions.specs.Fair.{Fair}
@@ -136,12 +137,6 @@ module _ (c : Call) (before : Results) (x : Unrefused c) where
       (fuelIn c) (before .accounts)
 
 -- ---- the call
-
-pub same-figures : (f g : Figures) → Accepted f ≡ Accepted g → f ≡ g
-same-figures f g e = cc
-
-pub never : {X : Type 0} (r : Refusal) (f : Figures) → Refused r ≡ Accepted f → X
-never r f e = let z : _≡_ {A = ℕ} 0 1 = cc in absurd (let w : ⊥ = omega arith in w)
 
 -- what is told of the answer, through the definition that gives it
 told-by : (c : Call) (a : Answer) → a ≡ answerBy (judged c) c → Tells (stepsOf c) (toldIn a)

@@ -1,4 +1,4 @@
--- What quantification promises of every call: the customer's three demands.
+-- What the quantification of drainage gas promises of every call: the customer's three demands.
 -- Assumes nothing.
 use Prim.Native.Nat.{ℕ, _+_, _*_}
 use mathlib.Core.Path.{_≡_}

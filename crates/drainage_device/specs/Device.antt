@@ -99,7 +99,7 @@ accountOf r =
 pub record Low (reading : List ℕ) (b : ℕ) : Type 0 where
   pub low : (i : ℕ) → missingAt reading i ≡ false → getD reading i mark ≤ b
 
--- what refusals 1 to 8 leave: rows of one length, checks in order, every reading in range or missing
+-- what the refusals leave: rows of one length, checks in order, every reading in range or missing
 pub record Right (r : Records) : Type 0 where
   pub few : intervalsOf r ≤ intervalsMost
   pub long : Long (r .series) (intervalsOf r)

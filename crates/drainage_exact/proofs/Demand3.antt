@@ -10,7 +10,7 @@ use Rattle.rows.specs.Rows.{sumTo, pick}
 use Rattle.rows.proofs.Sums.{sumTo-add, sumTo-mul, sumTo-const}
 use Rattle.protocol.specs.Numbers.{methaneMg}
 use Rattle.protocol.specs.Ranges.{kelvinOf, contentMost}
-use Rattle.volume.specs.Volume.{correctionOver, correctionUnder, correctionDown, hundredthsFactor, hundredthsOf, methaneUnder, methaneLitresIn, methaneLitres}
+use Rattle.volume.specs.Volume.{correctionOver, correctionUnder, correctionDown, partsFactor, hundredthsOf, methaneUnder, methaneLitresIn, methaneLitres}
 use Rattle.balance.specs.Balance.{destroyedOf, uncombustedOf, baselineMg, carbonDioxideMg, uncombustedMg, fuelMg, baselineAll, carbonDioxideAll}
 use Rattle.balance.specs.Balance.{uncombustedAll, equation1, reductionAll, tonnesOf}
 use Rattle.balance.proofs.Laws.{reduction-ext}
@@ -63,7 +63,7 @@ interval-close : (flow content : ℕ) (temp : ℤ) (press : ℕ) → 0 < kelvinO
     → RoundedDown 100 (exactMethane flow content temp press) (methaneLitres flow content temp press) 1
 unfolding exactMethane exactHundredths methaneLitres methaneLitresIn hundredthsOf correctionDown
 interval-close flow content temp press h l =
-    down-interval 100 methaneUnder (correctionOver hundredthsFactor flow press) (correctionUnder temp) content
+    down-interval 100 methaneUnder (correctionOver partsFactor flow press) (correctionUnder temp) content
     (omega arith) (mul-pos h (let z : 0 < 101325 = omega arith in z)) (omega (arith, l))
 
 q-close : (u : Used) → Possible u → (d : ℕ) → d < u .devices → RoundedDown 100 (exactQ u d) (reportedQ u d) (countedOf u d)

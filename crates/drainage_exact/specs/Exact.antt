@@ -9,7 +9,7 @@ use Rattle.rows.specs.Rows.{sumTo, pick}
 use Rattle.protocol.specs.Numbers.{methaneMg}
 use Rattle.protocol.specs.Kinds.{thousandthsOf}
 use Rattle.protocol.specs.Ranges.{kelvinOf, contentMost}
-use Rattle.volume.specs.Volume.{correctionOver, correctionUnder, correctionDown, hundredthsFactor, hundredthsOf, methaneUnder, methaneLitresIn, methaneLitres}
+use Rattle.volume.specs.Volume.{correctionOver, correctionUnder, correctionDown, partsFactor, hundredthsOf, methaneUnder, methaneLitresIn, methaneLitres}
 use Rattle.balance.specs.Balance.{fuelMg, reductionOf, reductionAll, baselineAll, carbonDioxideAll, uncombustedAll, baselineMg, carbonDioxideMg, uncombustedMg}
 use Rattle.balance.specs.Balance.{destroyedOf, uncombustedOf, tonnesOf}
 use Rattle.fractions.specs.Fraction.{Fraction, over, asFraction, _-ᶠ_, _*ᶠ_, sumᶠ, _≤ᶠ_}
@@ -39,7 +39,7 @@ pub record Possible (u : Used) : Type 0 where
 
 -- rule 9.1 without its rounding: hundredths of a litre at standard conditions
 unfoldable pub exactHundredths : ℕ → ℤ → ℕ → Fraction
-exactHundredths flow temp press = over (correctionOver hundredthsFactor flow press) (correctionUnder temp)
+exactHundredths flow temp press = over (correctionOver partsFactor flow press) (correctionUnder temp)
 
 -- rule 9.2 without its rounding: litres of methane
 unfoldable pub exactMethane : ℕ → ℕ → ℤ → ℕ → Fraction

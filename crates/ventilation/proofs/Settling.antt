@@ -12,7 +12,7 @@ use Rattle.refusals.specs.declared.Refusal.{Refusal}
 use Rattle.refusals.specs.declared.Verdict.{Verdict}
 use Rattle.refusals.specs.declared.Verdict.the-variants.{Clean, Refused as Offended}
 use Rattle.columns.specs.Streams.{Gas, gasAt, gasRight, gasMissing}
-use Rattle.columns.proofs.StreamLaws.{air-part-at}
+use Rattle.columns.proofs.StreamLaws.{stream-part-at}
 use Rattle.balance.specs.Balance.{Moderate}
 use Rattle.steps.specs.Step.{Tells}
 use Rattle.fractions.specs.Fair.{Fair}
@@ -25,6 +25,7 @@ use Rattle.accounts.specs.Totals.{countedIn, replacedIn, totalsOver}
 use Rattle.accounts.specs.Sheet.{fuelSum, figuresFrom, toldIn}
 use Rattle.accounts.specs.Accounted.{outcomeGiven, Accounted}
 use Rattle.accounts.proofs.Adding.{moderate}
+use Rattle.accounts.proofs.Answers.{same-figures, never}
 use Rattle.accounts.proofs.Given.{outcome-at, counted-in, accounted}
 use Rattle.ventilation_exact.specs.Exact.{Possible, AllPossible, exactReduction, promised, reportedInlet, reportedExhaust, tonnesWith}
 use Rattle.ventilation_exact.proofs.Demand3.{countedOf, countedAll, demand-3-of}
@@ -56,10 +57,10 @@ module _ (c : Call) (before : Results) (x : Unrefused c) where
         outcome-at (c .intervals) (c .devices) (λ e. outcomeAt (airIn (lentIn c) e)) (accountIn (lentIn c)) (counts (lentIn c) (c .devices) (sound c x)) d k h l
 
     inlet-here : gasAt (airIn (lentIn c) d .inlet) k ≡ gasAt (c .air .inlet) (d * c .intervals + k)
-    inlet-here = air-part-at (c .air .inlet) (c .intervals) d k l
+    inlet-here = stream-part-at (c .air .inlet) (c .intervals) d k l
 
     exhaust-here : gasAt (airIn (lentIn c) d .exhaust) k ≡ gasAt (c .air .exhaust) (d * c .intervals + k)
-    exhaust-here = air-part-at (c .air .exhaust) (c .intervals) d k l
+    exhaust-here = stream-part-at (c .air .exhaust) (c .intervals) d k l
 
     -- what a counted interval is, of the readings as lent
     counted-here : counted (outcomeGiven (after .outcome) (d * c .intervals + k)) ≡ true
@@ -134,12 +135,6 @@ module _ (c : Call) (before : Results) (x : Unrefused c) where
       sumTo-ext (c .devices) (λ d. replacedIn (accountIn (lentIn c) d)) (λ d. 0) (λ d h. account-replaced (airIn (lentIn c) d)) ∙ sumTo-zero (c .devices)
 
 -- ---- the call
-
-same-figures : (f g : Figures) → Accepted f ≡ Accepted g → f ≡ g
-same-figures f g e = cc
-
-never : {X : Type 0} (r : Refusal) (f : Figures) → Refused r ≡ Accepted f → X
-never r f e = let z : _≡_ {A = ℕ} 0 1 = cc in absurd (let w : ⊥ = omega arith in w)
 
 -- what is told of the answer, through the definition that gives it
 told-by : (c : Call) (a : Answer) → a ≡ answerBy (judged c) c → Tells (stepsOf c) (toldIn a)

@@ -6,6 +6,7 @@ use mathlib.Core.List.{List, [], _∷_, _++_}
 use lib.IntN.{pos, negsuc}
 use lib.ListN.{replicate}
 use Rattle.refusals.specs.declared.Verdict.the-variants.{Clean}
+use Rattle.protocol.specs.Ranges.{mark}
 use Rattle.volume.specs.Volume.{correctionDown, correctionUp, hundredthsOf, methaneLitresIn, methaneLitres, methaneLitresUpIn, methaneLitresUp}
 use Rattle.balance.specs.Balance.{baselineMg, carbonDioxideMg, uncombustedMg, fuelMg, reductionOf, tonnesOf, creditsOf}
 use Rattle.figures.specs.declared.Figures.{Figures}
@@ -58,26 +59,27 @@ sheet : figuresOf worked
 unfolding figuresOf figuresFrom totalsOver countedIn replacedIn excludedIn fuelSum fuelMg reductionOf tonnesOf creditsOf baselineMg carbonDioxideMg uncombustedMg accountOf inletOf exhaustOf entryAt entryOf outcomeOf inletLitres exhaustLitres methaneLitres methaneLitresIn hundredthsOf correctionDown methaneLitresUp methaneLitresUpIn correctionUp
 sheet = refl
 
--- one of each outcome: as much out as in, stopped, unrecorded, the same readings, and 50,000 l in with 1,000 out; 3 is before 6
+-- as much out as in, stopped, unrecorded, the same readings, a reading missing, and 50,000 l in with 1,000 out; 3 is before 6
 mixed : List Interval
 mixed =
     interval (standard 1000 5000) (standard 1000 5000) 1
     ∷ interval densest densest 0
     ∷ interval densest densest 3
     ∷ interval densest densest 1
+    ∷ interval densest (standard mark 0) 2
     ∷ interval (standard 1000 5000) (standard 1000 100) 2
     ∷ []
 
--- CO2 is that of the 49,000 l of difference, rounded up for the device: 7,337 × 49,000 / 4
 row-of-mixed : after (callOf mixed [] [])
     ≡ record {
-      outcome = 0 ∷ 3 ∷ 4 ∷ 6 ∷ 0 ∷ [];
-      accounts = (2 ∷ 0 ∷ 0 ∷ 1 ∷ 1 ∷ 0 ∷ 1 ∷ 0 ∷ 0 ∷ 0 ∷ 100000 ∷ 49000 ∷ 51000 ∷ []) ++ replicate 195 0;
+      outcome = 0 ∷ 3 ∷ 4 ∷ 6 ∷ 5 ∷ 0 ∷ [];
+      accounts = (2 ∷ 0 ∷ 0 ∷ 1 ∷ 1 ∷ 1 ∷ 1 ∷ 0 ∷ 0 ∷ 0 ∷ 100000 ∷ 49000 ∷ 51000 ∷ []) ++ replicate 195 0;
     }
 unfolding mixed resultsOf outcomePart accountOf inletOf exhaustOf entryAt entryOf outcomeOf inletLitres exhaustLitres methaneLitres methaneLitresIn hundredthsOf correctionDown methaneLitresUp methaneLitresUpIn correctionUp
 row-of-mixed = refl
 
-figures-of-mixed : (figuresOf (callOf mixed [] []) .counted ≡ 2) × (figuresOf (callOf mixed [] []) .excluded ≡ 3)
+-- CO2 is that of the 49,000 l of difference: 7,337 × 49,000 / 4
+figures-of-mixed : (figuresOf (callOf mixed [] []) .counted ≡ 2) × (figuresOf (callOf mixed [] []) .excluded ≡ 4)
     × (figuresOf (callOf mixed [] []) .«co2_mg» ≡ 89878250) × (figuresOf (callOf mixed [] []) .«reduction_mg» ≡ pos 596464750)
 unfolding mixed figuresOf figuresFrom totalsOver countedIn replacedIn excludedIn fuelSum fuelMg reductionOf baselineMg carbonDioxideMg uncombustedMg accountOf inletOf exhaustOf entryAt entryOf outcomeOf inletLitres exhaustLitres methaneLitres methaneLitresIn hundredthsOf correctionDown methaneLitresUp methaneLitresUpIn correctionUp
 figures-of-mixed = (refl, refl, refl, refl)

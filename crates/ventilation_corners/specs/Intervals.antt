@@ -44,7 +44,7 @@ first-lines : (entryOf (standard mark 5000) (standard mark 100) 0 ≡ entry 3 0 
 unfolding entryOf outcomeOf
 first-lines = (refl, refl)
 
--- each stream has its own flow, temperature and pressure: 10,000 m3 in and 20,000 m3 out, at 0.00 °C and half the pressure
+-- each stream has its own flow, temperature and pressure: 10,000 m3 in, and 20,000 m3 out at 0.00 °C and 50,000 Pa
 own-readings : entryOf (standard 1000 5000) (gasOf 2000 100 (pos 0) 50000) 1 ≡ entry 0 50000 1060
 unfolding entryOf outcomeOf inletLitres exhaustLitres methaneLitres methaneLitresIn hundredthsOf correctionDown methaneLitresUp methaneLitresUpIn correctionUp
 own-readings = refl

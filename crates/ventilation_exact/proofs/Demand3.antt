@@ -10,7 +10,7 @@ use Rattle.rows.specs.Rows.{sumTo, pick}
 use Rattle.rows.proofs.Sums.{sumTo-mul}
 use Rattle.protocol.specs.Numbers.{methaneMg}
 use Rattle.columns.specs.Streams.{Gas}
-use Rattle.volume.specs.Volume.{correctionOver, correctionUnder, correctionDown, correctionUp, hundredthsFactor, hundredthsOf, methaneUnder}
+use Rattle.volume.specs.Volume.{correctionOver, correctionUnder, correctionDown, correctionUp, partsFactor, hundredthsOf, methaneUnder}
 use Rattle.volume.specs.Volume.{methaneLitresIn, methaneLitres, methaneLitresUpIn, methaneLitresUp}
 use Rattle.balance.specs.Balance.{baselineMg, carbonDioxideMg, uncombustedMg, fuelMg, equation1, tonnesOf}
 use Rattle.fractions.specs.Fraction.{Fraction, asFraction, _-ᶠ_, sumᶠ}
@@ -72,12 +72,12 @@ module _ (g : Gas) (s : Possible g) where
   gas-down : RoundedDown 50 (exactMethane g) (methaneLitres (g .flow) (g .ppm) (g .temp) (g .press)) 1
   unfolding exactMethane methaneLitres methaneLitresIn hundredthsOf correctionDown
   gas-down =
-      down-interval 50 methaneUnder (correctionOver hundredthsFactor (g .flow) (g .press)) (correctionUnder (g .temp)) (g .ppm) (omega arith) above most
+      down-interval 50 methaneUnder (correctionOver partsFactor (g .flow) (g .press)) (correctionUnder (g .temp)) (g .ppm) (omega arith) above most
 
   gas-up : RoundedUp 50 (exactMethane g) (methaneLitresUp (g .flow) (g .ppm) (g .temp) (g .press)) 1
   unfolding exactMethane methaneLitresUp methaneLitresUpIn correctionUp
   gas-up =
-      up-interval 50 methaneUnder (correctionOver hundredthsFactor (g .flow) (g .press)) (correctionUnder (g .temp)) (g .ppm) (omega arith) above most
+      up-interval 50 methaneUnder (correctionOver partsFactor (g .flow) (g .press)) (correctionUnder (g .temp)) (g .ppm) (omega arith) above most
 
 module _ (u : Used) (s : AllPossible u) (d : ℕ) (h : d < u .devices) where
   inlet-down : RoundedDown 50 (exactInlet u d) (reportedInlet u d) (countedOf u d)

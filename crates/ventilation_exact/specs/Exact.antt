@@ -9,7 +9,7 @@ use Rattle.rows.specs.Rows.{sumTo, pick}
 use Rattle.protocol.specs.Numbers.{methaneMg}
 use Rattle.protocol.specs.Ranges.{kelvinOf, ppmMost}
 use Rattle.columns.specs.Streams.{Gas, gasOf}
-use Rattle.volume.specs.Volume.{correctionOver, correctionUnder, correctionDown, correctionUp, hundredthsFactor, hundredthsOf, methaneUnder}
+use Rattle.volume.specs.Volume.{correctionOver, correctionUnder, correctionDown, correctionUp, partsFactor, hundredthsOf, methaneUnder}
 use Rattle.volume.specs.Volume.{methaneLitresIn, methaneLitres, methaneLitresUpIn, methaneLitresUp}
 use Rattle.balance.specs.Balance.{fuelMg, equation1, reductionOf, baselineMg, carbonDioxideMg, uncombustedMg, tonnesOf}
 use Rattle.fractions.specs.Fraction.{Fraction, over, asFraction, _-ᶠ_, _*ᶠ_, sumᶠ, _≤ᶠ_}
@@ -41,7 +41,7 @@ pub record AllPossible (u : Used) : Type 0 where
 
 -- rules 19.2 and 19.3 without their roundings: litres of methane in a stream
 unfoldable pub exactMethane : Gas → Fraction
-exactMethane g = over (correctionOver hundredthsFactor (g .flow) (g .press)) (correctionUnder (g .temp)) *ᶠ over (g .ppm) methaneUnder
+exactMethane g = over (correctionOver partsFactor (g .flow) (g .press)) (correctionUnder (g .temp)) *ᶠ over (g .ppm) methaneUnder
 
 -- over the counted intervals of device d, of either stream
 abbrev pub exactSum : Used → (ℕ → ℕ → Gas) → ℕ → Fraction

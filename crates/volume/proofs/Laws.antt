@@ -7,51 +7,51 @@ use native.Mathlib.Omega.{arith}
 use lib.IntN.{ℤ}
 use Rattle.protocol.specs.Ranges.{kelvinOf, flowMost, contentMost, ppmMost}
 use Rattle.protocol.specs.Rounding.{ceilDiv}
-use Rattle.volume.specs.Volume.{correctionUnder, correctionDown, correctionUp, hundredthsFactor, hundredthsOf, methaneUnder, methaneLitresIn, methaneLitres, Inside, hundredthsMost, litresMost, airMost}
+use Rattle.volume.specs.Volume.{correctionUnder, correctionDown, correctionUp, partsFactor, hundredthsOf, methaneUnder, methaneLitresIn, methaneLitres, Inside, partsMost, litresMost, airMost}
 use Rattle.volume.proofs.Mirror.{up-one-more}
-use Rattle.volume.proofs.Pair.{hundredthsOver, under, same-hundredths}
+use Rattle.volume.proofs.Pair.{partsOver, under, same-hundredths}
 
 -- flow × 11,726,000 × pressure is at most 105,534,000,000,000,000
-pub over-most : (flow press : ℕ) → flow ≤ flowMost → press ≤ 300000 → flow * hundredthsOver * press ≤ 105534000000000000
+pub over-most : (flow press : ℕ) → flow ≤ flowMost → press ≤ 300000 → flow * partsOver * press ≤ 105534000000000000
 over-most flow press a b =
-    let h : flow * hundredthsOver * press ≤ 30000 * hundredthsOver * 300000
-    = mul-le-mul (let z : flow * hundredthsOver ≤ 30000 * hundredthsOver = omega arith in z) b in
+    let h : flow * partsOver * press ≤ 30000 * partsOver * 300000
+    = mul-le-mul (let z : flow * partsOver ≤ 30000 * partsOver = omega arith in z) b in
     omega arith
 
 -- a quotient q of that by k × 4,053
-quotient-most : (n k q : ℕ) → n ≤ 105534000000000000 → 23315 ≤ k → k * under * q ≤ n → q ≤ hundredthsMost
+quotient-most : (n k q : ℕ) → n ≤ 105534000000000000 → 23315 ≤ k → k * under * q ≤ n → q ≤ partsMost
 quotient-most n k q a b h =
     let z : 23315 * q ≤ k * q = mul-le-mul-right q b in
     omega arith
 
 -- the hundredths of rule 9.1, worked with the pair
-pub hundredths-most : (flow : ℕ) (temp : ℤ) (press : ℕ) → Inside flow temp press → hundredthsOf flow temp press ≤ hundredthsMost
+pub hundredths-most : (flow : ℕ) (temp : ℤ) (press : ℕ) → Inside flow temp press → hundredthsOf flow temp press ≤ partsMost
 hundredths-most flow temp press i =
-    subst (λ (n : ℕ). n ≤ hundredthsMost) (same-hundredths flow temp press)
-    (quotient-most (flow * hundredthsOver * press) (kelvinOf temp) (flow * hundredthsOver * press / (kelvinOf temp * under))
-    (over-most flow press (i .flow-most) (i .press-most)) (i .kelvin-least) (mul-div-le (flow * hundredthsOver * press) (kelvinOf temp * under)))
+    subst (λ (n : ℕ). n ≤ partsMost) (same-hundredths flow temp press)
+    (quotient-most (flow * partsOver * press) (kelvinOf temp) (flow * partsOver * press / (kelvinOf temp * under))
+    (over-most flow press (i .flow-most) (i .press-most)) (i .kelvin-least) (mul-div-le (flow * partsOver * press) (kelvinOf temp * under)))
 
 -- rounded up they are one more at the most
-pub up-most : (flow : ℕ) (temp : ℤ) (press : ℕ) → Inside flow temp press → correctionUp hundredthsFactor flow temp press ≤ hundredthsMost + 1
+pub up-most : (flow : ℕ) (temp : ℤ) (press : ℕ) → Inside flow temp press → correctionUp partsFactor flow temp press ≤ partsMost + 1
 unfolding hundredthsOf
 up-most flow temp press i =
-    let most : correctionDown hundredthsFactor flow temp press ≤ hundredthsMost = hundredths-most flow temp press i in
-    omega (arith, up-one-more hundredthsFactor flow temp press (omega (arith, i .kelvin-least)))
+    let most : correctionDown partsFactor flow temp press ≤ partsMost = hundredths-most flow temp press i in
+    omega (arith, up-one-more partsFactor flow temp press (omega (arith, i .kelvin-least)))
 
 -- hundredths × content of ventilation air, with one of them more, is at most 22,336,255,640,000
-pub content-product-most : (parts content : ℕ) → parts ≤ hundredthsMost + 1 → content ≤ ppmMost → parts * content ≤ 22336255640000
+pub content-product-most : (parts content : ℕ) → parts ≤ partsMost + 1 → content ≤ ppmMost → parts * content ≤ 22336255640000
 content-product-most parts content a b = let h : parts * content ≤ 1116812782 * 20000 = mul-le-mul a b in omega arith
 
 -- methane of ventilation air, down and up
-pub air-most : (parts content : ℕ) → parts ≤ hundredthsMost → content ≤ ppmMost → parts * content / methaneUnder ≤ airMost
-air-most parts content a b = let h : parts * content ≤ hundredthsMost * 20000 = mul-le-mul a b in omega arith
+pub air-most : (parts content : ℕ) → parts ≤ partsMost → content ≤ ppmMost → parts * content / methaneUnder ≤ airMost
+air-most parts content a b = let h : parts * content ≤ partsMost * 20000 = mul-le-mul a b in omega arith
 
-pub air-up-most : (parts content : ℕ) → parts ≤ hundredthsMost + 1 → content ≤ ppmMost → ceilDiv (parts * content) methaneUnder ≤ airMost + 1
+pub air-up-most : (parts content : ℕ) → parts ≤ partsMost + 1 → content ≤ ppmMost → ceilDiv (parts * content) methaneUnder ≤ airMost + 1
 air-up-most parts content a b = omega (arith, content-product-most parts content a b)
 
 -- there is no more methane than gas
-pub methane-most : (hundredths content : ℕ) → hundredths ≤ hundredthsMost → content ≤ contentMost → hundredths * content / methaneUnder ≤ litresMost
-methane-most hundredths content a b = let h : hundredths * content ≤ hundredthsMost * 10000 = mul-le-mul a b in omega arith
+pub methane-most : (hundredths content : ℕ) → hundredths ≤ partsMost → content ≤ contentMost → hundredths * content / methaneUnder ≤ litresMost
+methane-most hundredths content a b = let h : hundredths * content ≤ partsMost * 10000 = mul-le-mul a b in omega arith
 
 -- no flow, no methane
 pub no-flow : (content : ℕ) (temp : ℤ) (press : ℕ) → methaneLitres 0 content temp press ≡ 0

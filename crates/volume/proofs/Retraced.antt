@@ -7,7 +7,7 @@ use native.Mathlib.Nat.{mod-eq-sub-div-mul, mod-add-div', mul-add-mod-self-right
 use native.Mathlib.Omega.{arith}
 use lib.IntN.{ℤ}
 use Rattle.protocol.specs.Ranges.{kelvinOf, contentMost}
-use Rattle.volume.specs.Volume.{hundredthsOf, methaneUnder, methaneLitresIn, methaneLitres, Inside, hundredthsMost}
+use Rattle.volume.specs.Volume.{hundredthsOf, methaneUnder, methaneLitresIn, methaneLitres, Inside, partsMost}
 use Rattle.volume.proofs.Laws.{hundredths-most, content-product-most, methane-most}
 use Rattle.volume.proofs.Pair.{over}
 use Rattle.volume.proofs.TwoSteps.{product, divisor, spread, divided-first, two-steps}
@@ -79,9 +79,9 @@ below-most flow temp press n r i e =
     let less : n % cellF temp < cellF temp = mod-lt n (omega (arith, i .kelvin-least)) in
     omega (arith, less, e, i .kelvin-most)
 
-l-most : (flow : ℕ) (temp : ℤ) (press : ℕ) → Inside flow temp press → cellL flow temp press ≤ hundredthsMost
+l-most : (flow : ℕ) (temp : ℤ) (press : ℕ) → Inside flow temp press → cellL flow temp press ≤ partsMost
 l-most flow temp press i =
-    subst (λ (n : ℕ). n ≤ hundredthsMost)
+    subst (λ (n : ℕ). n ≤ partsMost)
     (sym (retraced flow temp press (omega (arith, i .kelvin-least))))
     (hundredths-most flow temp press i)
 
@@ -111,7 +111,7 @@ digits flow content temp press i h =
     let product-rest : cellH flow temp * press ≤ 151237694 * 300000 = mul-le-mul rest (i .press-most) in
     let second : cellI flow temp press * cellF temp ≤ cellH flow temp * press = div-mul-le-self (cellH flow temp * press) (cellF temp) in
     let last : cellJ flow temp press ≤ 151237694 = below-most flow temp press (product flow press) (cellJ flow temp press) i (j-is flow temp press) in
-    let most : cellL flow temp press ≤ hundredthsMost = l-most flow temp press i in
+    let most : cellL flow temp press ≤ partsMost = l-most flow temp press i in
     record {
       e-digits = omega (arith, i .flow-most);
       f-digits = omega (arith, i .kelvin-most);

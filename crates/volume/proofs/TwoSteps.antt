@@ -7,8 +7,8 @@ use native.Mathlib.Nat.{mul-add-div-right, mod-add-div', mod-lt, mul-le-mul}
 use native.Mathlib.Omega.{arith}
 use lib.IntN.{ℤ}
 use Rattle.protocol.specs.Ranges.{kelvinOf, flowMost}
-use Rattle.volume.specs.Volume.{hundredthsOf, Inside, hundredthsMost}
-use Rattle.volume.proofs.Pair.{over, hundredthsOver, under, same-hundredths}
+use Rattle.volume.specs.Volume.{hundredthsOf, Inside, partsMost}
+use Rattle.volume.proofs.Pair.{over, partsOver, under, same-hundredths}
 use Rattle.volume.proofs.Laws.{hundredths-most}
 
 -- the product over quotient and remainder
@@ -36,7 +36,7 @@ inTwoSteps flow temp press = product flow press / divisor temp * 100 + product f
 pub two-steps : (flow : ℕ) (temp : ℤ) (press : ℕ) → 0 < kelvinOf temp → inTwoSteps flow temp press ≡ hundredthsOf flow temp press
 two-steps flow temp press above =
     divided-first (product flow press) (divisor temp) 100 (omega (arith, above))
-    ∙ ap (λ (n : ℕ). n / divisor temp) (let z : product flow press * 100 ≡ flow * hundredthsOver * press = omega arith in z)
+    ∙ ap (λ (n : ℕ). n / divisor temp) (let z : product flow press * 100 ≡ flow * partsOver * press = omega arith in z)
     ∙ same-hundredths flow temp press
 
 -- the numbers of the two steps, those given and those worked out, each below 2^53
@@ -63,7 +63,7 @@ product-most flow press a b =
 pub small : (flow : ℕ) (temp : ℤ) (press : ℕ) → Inside flow temp press → Small flow temp press
 small flow temp press i =
     let same : inTwoSteps flow temp press ≡ hundredthsOf flow temp press = two-steps flow temp press (omega (arith, i .kelvin-least)) in
-    let most : hundredthsOf flow temp press ≤ hundredthsMost = hundredths-most flow temp press i in
+    let most : hundredthsOf flow temp press ≤ partsMost = hundredths-most flow temp press i in
     let rest : product flow press % divisor temp < divisor temp = mod-lt (product flow press) (omega (arith, i .kelvin-least)) in
     record {
       flow-small = omega (arith, i .flow-most);

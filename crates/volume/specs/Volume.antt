@@ -26,12 +26,12 @@ correctionUp factor flow temp press = ceilDiv (correctionOver factor flow press)
 
 -- 0.1 m3, the unit of a flow, is 10,000 hundredths of a litre; in ventilation air 10 m3, the unit there, is 10,000 litres, so
 -- that what is in hundredths below is in litres there, by the same numbers
-abbrev pub hundredthsFactor : ℕ
-hundredthsFactor = 10000
+abbrev pub partsFactor : ℕ
+partsFactor = 10000
 
 -- rule 9.1: the hundredths of a litre of a flow in 0.1 m3, rounded down
 unfoldable pub hundredthsOf : ℕ → ℤ → ℕ → ℕ
-hundredthsOf flow temp press = correctionDown hundredthsFactor flow temp press
+hundredthsOf flow temp press = correctionDown partsFactor flow temp press
 
 -- ---- rule 9.2
 
@@ -40,9 +40,9 @@ hundredthsOf flow temp press = correctionDown hundredthsFactor flow temp press
 abbrev pub methaneUnder : ℕ
 methaneUnder = 1000000
 
--- the methane in so many hundredths of a litre, in whole litres, rounded down
+-- the methane in so many parts, in whole litres, rounded down
 unfoldable pub methaneLitresIn : ℕ → ℕ → ℕ
-methaneLitresIn hundredths content = hundredths * content / methaneUnder
+methaneLitresIn parts content = parts * content / methaneUnder
 
 -- rule 9.2 after rule 9.1: the methane litres of an interval, rounded down twice. The crates above cite this one.
 unfoldable pub methaneLitres : ℕ → ℕ → ℤ → ℕ → ℕ
@@ -53,7 +53,7 @@ unfoldable pub methaneLitresUpIn : ℕ → ℕ → ℕ
 methaneLitresUpIn parts content = ceilDiv (parts * content) methaneUnder
 
 unfoldable pub methaneLitresUp : ℕ → ℕ → ℤ → ℕ → ℕ
-methaneLitresUp flow content temp press = methaneLitresUpIn (correctionUp hundredthsFactor flow temp press) content
+methaneLitresUp flow content temp press = methaneLitresUpIn (correctionUp partsFactor flow temp press) content
 
 -- ---- limits
 
@@ -65,8 +65,8 @@ pub record Inside (flow : ℕ) (temp : ℤ) (press : ℕ) : Type 0 where
   pub press-most : press ≤ 300000
 
 -- rule 9.14: the most that an interval can have, 3,000 m3 at -40.00 °C and 300,000 Pa, in hundredths of a litre
-abbrev pub hundredthsMost : ℕ
-hundredthsMost = 1116812781
+abbrev pub partsMost : ℕ
+partsMost = 1116812781
 
 -- and in whole litres, of methane too
 abbrev pub litresMost : ℕ
@@ -91,7 +91,7 @@ at-least : hundredthsOf 1 (pos 10000) 50000 ≡ 3876
 unfolding hundredthsOf correctionDown
 at-least = refl
 
-at-most : hundredthsOf 30000 (negsuc 3999) 300000 ≡ hundredthsMost
+at-most : hundredthsOf 30000 (negsuc 3999) 300000 ≡ partsMost
 unfolding hundredthsOf correctionDown
 at-most = refl
 
@@ -101,11 +101,11 @@ unfolding hundredthsOf correctionDown
 one-short = refl
 
 -- rounded up: one more at 0.00 °C, none at the reference conditions, which divide without a rest
-up-at-freezing : correctionUp hundredthsFactor 1000 (pos 0) 101325 ≡ 10732199
+up-at-freezing : correctionUp partsFactor 1000 (pos 0) 101325 ≡ 10732199
 unfolding correctionUp
 up-at-freezing = refl
 
-up-at-reference : correctionUp hundredthsFactor 1000 (pos 2000) 101325 ≡ 10000000
+up-at-reference : correctionUp partsFactor 1000 (pos 2000) 101325 ≡ 10000000
 unfolding correctionUp
 up-at-reference = refl
 

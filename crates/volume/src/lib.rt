@@ -4,14 +4,14 @@ ghost use mathlib.Core.Path.{_≡_};
 ghost use Rattle.protocol.specs.Ranges.{ppmMost};
 ghost use Rattle.volume.specs.Volume.{
   correctionUp,
-  hundredthsFactor,
+  partsFactor,
   hundredthsOf,
   methaneLitresIn,
   methaneLitres,
   methaneLitresUpIn,
   methaneLitresUp,
   Inside,
-  hundredthsMost,
+  partsMost,
   airMost,
 };
 use protocol::Protocol;
@@ -29,19 +29,19 @@ const METHANE_UNDER: u64 = 1000000;
 // exchanged.
 pub fn hundredths(flow: u16, temp: i16, press: u32) -> u64
     requires { ⌜ Inside flow temp press ⌝ }
-    ensures { λ r. ⌜ (r ≡ hundredthsOf flow temp press) × (r ≤ hundredthsMost) ⌝ }
+    ensures { λ r. ⌜ (r ≡ hundredthsOf flow temp press) × (r ≤ partsMost) ⌝ }
 {
     let kelvin = protocol::kelvin(temp);
     (flow as u64) * OVER * (press as u64) / (kelvin * UNDER)
 }
 
-// Litres of methane in so many hundredths of a litre of gas. Ruled out: rounded up or to the nearest; hundredths taken for
-// litres.
-pub fn methane_litres_in(hundredths: u64, content: u16) -> u64
-    requires { ⌜ (hundredths ≤ hundredthsMost) × (content ≤ ppmMost) ⌝ }
-    ensures { λ r. ⌜ (r ≡ methaneLitresIn hundredths content) × (r ≤ airMost) ⌝ }
+// Litres of methane in so many hundredths of a litre of gas, or in so many litres of ventilation air. Ruled out: rounded up or to the
+// nearest; hundredths taken for litres.
+pub fn methane_litres_in(parts: u64, content: u16) -> u64
+    requires { ⌜ (parts ≤ partsMost) × (content ≤ ppmMost) ⌝ }
+    ensures { λ r. ⌜ (r ≡ methaneLitresIn parts content) × (r ≤ airMost) ⌝ }
 {
-    hundredths * (content as u64) / METHANE_UNDER
+    parts * (content as u64) / METHANE_UNDER
 }
 
 // The methane litres of an interval, from the values used for it. Ruled out: one rounding at the end in place of two;
@@ -57,7 +57,7 @@ pub fn methane_litres(flow: u16, content: u16, temp: i16, press: u32) -> u64
 // The volume rounded up. Ruled out: rounded down; one more where it divides without a rest.
 fn parts_up(flow: u16, temp: i16, press: u32) -> u64
     requires { ⌜ Inside flow temp press ⌝ }
-    ensures { λ r. ⌜ (r ≡ correctionUp hundredthsFactor flow temp press) × (r ≤ hundredthsMost + 1) ⌝ }
+    ensures { λ r. ⌜ (r ≡ correctionUp partsFactor flow temp press) × (r ≤ partsMost + 1) ⌝ }
 {
     let under = protocol::kelvin(temp) * UNDER;
     ((flow as u64) * OVER * (press as u64) + (under - 1)) / under

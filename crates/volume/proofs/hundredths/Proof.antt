@@ -5,9 +5,9 @@ use lib.IntN.{ℤ}
 use native.Mathlib.Omega.{arith}
 use mir.Facts.{toZ-ofZ}
 use Rattle.protocol.specs.Ranges.{kelvinOf}
-use Rattle.volume.specs.Volume.{hundredthsOf, hundredthsMost}
+use Rattle.volume.specs.Volume.{hundredthsOf, partsMost}
 use Rattle.volume.proofs.Laws.{over-most, hundredths-most}
-use Rattle.volume.proofs.Pair.{hundredthsOver, under, same-hundredths}
+use Rattle.volume.proofs.Pair.{partsOver, under, same-hundredths}
 use Rattle.volume.proofs.hundredths.Statement.{statement}
 use Rattle.volume.proofs.hundredths.Tie as tie
 
@@ -34,16 +34,16 @@ div-result : tie.Need-div-result
 div-result c = omega (arith, absolute c, c .before .pre .kelvin-least)
 
 -- what the code gives is rule 9.1's hundredths
-right : (c : tie.After-kelvin) → c .before .args .flow * hundredthsOver * c .before .args .press / (c .kelvin .result * under) ≡
+right : (c : tie.After-kelvin) → c .before .args .flow * partsOver * c .before .args .press / (c .kelvin .result * under) ≡
     hundredthsOf (c .before .args .flow) (c .before .args .temp) (c .before .args .press)
 right c =
-    ap (λ (k : ℕ). c .before .args .flow * hundredthsOver * c .before .args .press / (k * under)) (absolute c)
+    ap (λ (k : ℕ). c .before .args .flow * partsOver * c .before .args .press / (k * under)) (absolute c)
     ∙ same-hundredths (c .before .args .flow) (c .before .args .temp) (c .before .args .press)
 
 returns : tie.Need-returns
 returns c = (
   right c,
-  subst (λ (n : ℕ). n ≤ hundredthsMost) (sym (right c))
+  subst (λ (n : ℕ). n ≤ partsMost) (sym (right c))
       (hundredths-most (c .before .args .flow) (c .before .args .temp) (c .before .args .press) (c .before .pre)),
 )
 

@@ -6,7 +6,7 @@ use native.Mathlib.Omega.{arith}
 use mir.Facts.{toZ-ofZ}
 use borrow.Author.Needs.{needs}
 use Rattle.protocol.specs.Rounding.{ceilDiv}
-use Rattle.volume.specs.Volume.{correctionUp, hundredthsFactor, methaneUnder, methaneLitresUpIn, methaneLitresUp}
+use Rattle.volume.specs.Volume.{correctionUp, partsFactor, methaneUnder, methaneLitresUpIn, methaneLitresUp}
 use Rattle.volume.proofs.Laws.{content-product-most, air-up-most}
 use Rattle.volume.proofs.methane_litres_up.Statement.{statement}
 use Rattle.volume.proofs.methane_litres_up.Tie as tie
@@ -27,10 +27,10 @@ add-result c =
 
 -- the gas, of the temperature that came in
 gas : (c : tie.After-parts-up) → c .parts-up .result
-    ≡ correctionUp hundredthsFactor (c .before .args .flow) (c .before .args .temp) (c .before .args .press)
+    ≡ correctionUp partsFactor (c .before .args .flow) (c .before .args .temp) (c .before .args .press)
 gas c =
     c .parts-up .ensures .0
-    ∙ ap (λ (z : ℤ). correctionUp hundredthsFactor (c .before .args .flow) z (c .before .args .press)) (toZ-ofZ (c .before .fits .temp))
+    ∙ ap (λ (z : ℤ). correctionUp partsFactor (c .before .args .flow) z (c .before .args .press)) (toZ-ofZ (c .before .fits .temp))
 
 returns : tie.Need-returns
 unfolding methaneLitresUp methaneLitresUpIn

@@ -6,9 +6,9 @@ use native.Mathlib.Omega.{arith}
 use mir.Facts.{toZ-ofZ}
 use Rattle.protocol.specs.Ranges.{kelvinOf}
 use Rattle.protocol.specs.Rounding.{ceilDiv}
-use Rattle.volume.specs.Volume.{correctionUp, hundredthsFactor, hundredthsMost}
+use Rattle.volume.specs.Volume.{correctionUp, partsFactor, partsMost}
 use Rattle.volume.proofs.Laws.{over-most, up-most}
-use Rattle.volume.proofs.Pair.{hundredthsOver, under, same-up}
+use Rattle.volume.proofs.Pair.{partsOver, under, same-up}
 use Rattle.volume.proofs.parts_up.Statement.{statement}
 use Rattle.volume.proofs.parts_up.Tie as tie
 
@@ -21,7 +21,7 @@ kelvin-requires c κs =
 absolute : (c : tie.After-kelvin) → c .kelvin .result ≡ kelvinOf (c .before .args .temp)
 absolute c = c .kelvin .ensures ∙ ap kelvinOf (toZ-ofZ (c .before .fits .temp))
 
-product-most : (c : tie.After-kelvin) → c .before .args .flow * hundredthsOver * c .before .args .press ≤ 105534000000000000
+product-most : (c : tie.After-kelvin) → c .before .args .flow * partsOver * c .before .args .press ≤ 105534000000000000
 product-most c = over-most (c .before .args .flow) (c .before .args .press) (c .before .pre .flow-most) (c .before .pre .press-most)
 
 mul-under : tie.Need-mul-under
@@ -43,16 +43,16 @@ div-result : tie.Need-div-result
 div-result c = omega (arith, absolute c, c .before .pre .kelvin-least)
 
 -- what the code gives is the correction, rounded up
-right : (c : tie.After-kelvin) → ceilDiv (c .before .args .flow * hundredthsOver * c .before .args .press) (c .kelvin .result * under)
-    ≡ correctionUp hundredthsFactor (c .before .args .flow) (c .before .args .temp) (c .before .args .press)
+right : (c : tie.After-kelvin) → ceilDiv (c .before .args .flow * partsOver * c .before .args .press) (c .kelvin .result * under)
+    ≡ correctionUp partsFactor (c .before .args .flow) (c .before .args .temp) (c .before .args .press)
 right c =
-    ap (λ (k : ℕ). ceilDiv (c .before .args .flow * hundredthsOver * c .before .args .press) (k * under)) (absolute c)
+    ap (λ (k : ℕ). ceilDiv (c .before .args .flow * partsOver * c .before .args .press) (k * under)) (absolute c)
     ∙ same-up (c .before .args .flow) (c .before .args .temp) (c .before .args .press) (omega (arith, c .before .pre .kelvin-least))
 
 returns : tie.Need-returns
 returns c = (
   right c,
-  subst (λ (n : ℕ). n ≤ hundredthsMost + 1) (sym (right c))
+  subst (λ (n : ℕ). n ≤ partsMost + 1) (sym (right c))
       (up-most (c .before .args .flow) (c .before .args .temp) (c .before .args .press) (c .before .pre)),
 )
 
