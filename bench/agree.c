@@ -7,7 +7,7 @@
 #include <stdlib.h>
 #include <string.h>
 
-static unsigned met[22], outcomes[10];
+static unsigned met[24], outcomes[10], air_outcomes[10];
 
 static void damage_checks(struct record *r)
 {
@@ -37,16 +37,21 @@ static void damage_reading(struct record *r)
     }
 }
 
+/* Fuel lines of the greatest numbers, at times one too many of them or a number one above; gives how many there are. */
+static uint32_t any_fuel(uint32_t *quantity, uint32_t *factor)
+{
+    const uint32_t some = drawn(67), fuels = some > 65 ? 65 : some;
+    for (size_t k = 0; k < fuels; k++) {
+        quantity[k] = 1000000000 + (drawn(200) == 0);
+        factor[k] = 4000000 + (drawn(200) == 0);
+    }
+    return fuels;
+}
+
 static void damage_fuel(struct record *r, size_t length[SLICES])
 {
-    r->fuels = drawn(67);
-    if (r->fuels > 65)
-        r->fuels = 65;
+    r->fuels = any_fuel(r->quantity, r->factor);
     length[QUANTITY] = length[FACTOR] = r->fuels;
-    for (size_t k = 0; k < r->fuels; k++) {
-        r->quantity[k] = 1000000000 + (drawn(200) == 0);
-        r->factor[k] = 4000000 + (drawn(200) == 0);
-    }
 }
 
 /* Nothing here makes an array seem longer than it is. */
@@ -141,6 +146,168 @@ static int same_quantify(unsigned number)
     answer_free(&b);
     r = sound;
     record_free(&r);
+    return same;
+}
+
+/* A stream's reading on either side of a border, or missing. */
+static void border_reading(struct stream *s, size_t i)
+{
+    static const uint16_t flow[] = {0, 1, 29999, 30000, 30001, 32768, 65534, 65535};
+    static const uint16_t ppm[] = {0, 1, 19999, 20000, 20001, 32768, 65534, 65535};
+    static const int16_t temp[] = {-32768, -32767, -4001, -4000, 10000, 10001, 32767};
+    static const uint32_t press[] = {0, 1, 49999, 50000, 300000, 300001, 65536, UINT32_MAX};
+    switch (drawn(4)) {
+    case 0: s->flow[i] = flow[drawn(8)]; break;
+    case 1: s->ppm[i] = ppm[drawn(8)]; break;
+    case 2: s->temp[i] = temp[drawn(7)]; break;
+    default: s->press[i] = press[drawn(8)]; break;
+    }
+}
+
+/* Up to three readings or statuses of one device-interval or of the one behind it, so that rivals meet. */
+static void damage_air_readings(struct air *r)
+{
+    static const uint8_t status[] = {0, 1, 2, 3, 4, 7, 255};
+    const size_t all = (size_t)r->intervals * r->devices, at = drawn(4) == 0 ? all - 1 : drawn((uint32_t)all);
+    for (uint32_t times = 1 + drawn(3); times > 0; times--) {
+        const size_t i = at + 1 < all ? at + drawn(2) : at;
+        switch (drawn(5)) {
+        case 0:
+        case 1: border_reading(&r->inlet, i); break;
+        case 2:
+        case 3: border_reading(&r->exhaust, i); break;
+        default: r->status[i] = status[drawn(7)]; break;
+        }
+    }
+}
+
+/* Nothing here makes an array seem longer than it is. */
+static void damage_air(struct air *r, size_t length[AIR_SLICES])
+{
+    switch (drawn(16)) {
+    case 0: r->intervals = drawn(2) ? 0 : 35137; break;
+    case 1: r->devices = drawn(2) ? 0 : 17; break;
+    case 2: length[drawn(AIR_SLICES)] /= 2; break;
+    case 3: length[drawn(AIR_QUANTITY)]--; break;
+    case 4:
+    case 5:
+    case 6:
+    case 7: damage_air_readings(r); break;
+    case 8:
+        r->fuels = any_fuel(r->quantity, r->factor);
+        length[AIR_QUANTITY] = length[AIR_FACTOR] = r->fuels;
+        break;
+    default: break;
+    }
+}
+
+/* Litres that come out whole, small and at 20 degrees and 101,325 Pa, and in the exhaust the same, one step more or one
+ * step less of one reading: as much out as in, and a litre more. */
+static void fill_equal(struct air *r)
+{
+    for (size_t i = 0; i < (size_t)r->intervals * r->devices; i++) {
+        r->inlet.flow[i] = r->exhaust.flow[i] = (uint16_t)(1 + drawn(drawn(2) ? 200 : 29999));
+        r->inlet.ppm[i] = r->exhaust.ppm[i] = (uint16_t)(100 * (1 + drawn(199)));
+        r->inlet.temp[i] = r->exhaust.temp[i] = 2000;
+        r->inlet.press[i] = r->exhaust.press[i] = 101325;
+        r->status[i] = (uint8_t)(1 + drawn(2));
+        switch (drawn(10)) {
+        case 0: r->exhaust.flow[i]++; break;
+        case 1: r->exhaust.flow[i]--; break;
+        case 2: r->exhaust.ppm[i]++; break;
+        case 3: r->exhaust.ppm[i]--; break;
+        case 4: r->exhaust.temp[i]++; break;
+        case 5: r->exhaust.temp[i]--; break;
+        case 6: r->exhaust.press[i]++; break;
+        case 7: r->exhaust.press[i]--; break;
+        default: break;
+        }
+    }
+}
+
+static void any_stream(struct stream *s, size_t i)
+{
+    s->flow[i] = (uint16_t)(drawn(4) == 0 ? 30000 * drawn(2) : drawn(30001));
+    s->ppm[i] = (uint16_t)(drawn(4) == 0 ? 20000 * drawn(2) : drawn(20001));
+    s->temp[i] = (int16_t)((drawn(4) == 0 ? 14000 * drawn(2) : drawn(14001)) - 4000);
+    s->press[i] = 50000 + (drawn(4) == 0 ? 250000 * drawn(2) : drawn(250001));
+}
+
+/* Any readings in their ranges, the ranges' ends more often than others. */
+static void fill_any_air(struct air *r)
+{
+    for (size_t i = 0; i < (size_t)r->intervals * r->devices; i++) {
+        any_stream(&r->inlet, i);
+        any_stream(&r->exhaust, i);
+        r->status[i] = (uint8_t)drawn(4);
+    }
+}
+
+struct point {
+    uint16_t flow, ppm;
+    int16_t temp;
+    uint32_t press;
+};
+
+static void set_stream(struct stream *s, size_t i, struct point p)
+{
+    s->flow[i] = p.flow;
+    s->ppm[i] = p.ppm;
+    s->temp[i] = p.temp;
+    s->press[i] = p.press;
+}
+
+/* Some intervals at the very borders of rounding: an inlet whose methane is a millionth of a litre short of a whole one
+ * more, or whose volume is one short of dividing, where that decides a litre; an exhaust that is as much above. The
+ * other stream lets the interval count. */
+static void set_borders(struct air *r)
+{
+    static const struct point below[] = {{13074, 4327, 2428, 154351}, {605, 9233, -3395, 54022},
+                                         {28669, 16165, -2748, 264931}, {8923, 12117, 5722, 136573}};
+    static const struct point above[] = {{8562, 3649, 1919, 213371}, {7137, 16003, 8414, 76901},
+                                         {65, 4805, -2138, 56227}, {27859, 5291, 5002, 177962}};
+    static const struct point most = {30000, 20000, -4000, 300000}, none = {0, 0, 0, 100000};
+    for (uint32_t times = 8; times > 0; times--) {
+        const size_t i = drawn(r->intervals * r->devices);
+        const int inlet = drawn(2) == 0;
+        set_stream(&r->inlet, i, inlet ? below[drawn(4)] : most);
+        set_stream(&r->exhaust, i, inlet ? none : above[drawn(4)]);
+        r->status[i] = 1;
+    }
+}
+
+static int same_ventilation(unsigned number)
+{
+    struct air r = air_new(drawn(3) == 0 ? 1 + drawn(40) : 1 + drawn(3000), 1 + drawn(3));
+    const struct air sound = r;
+    const size_t entries = (size_t)r.intervals * r.devices;
+    struct answer a = answer_new(entries), b = answer_new(entries);
+    size_t length[AIR_SLICES];
+    int same;
+    switch (drawn(4)) {
+    case 0: fill_equal(&r); break;
+    case 1: fill_any_air(&r); break;
+    default: fill_air(&r, 1 + drawn(20)); break;
+    }
+    if (drawn(3) == 0)
+        set_borders(&r);
+    right_air_lengths(&r, length);
+    damage_air(&r, length);
+    if (r.intervals == sound.intervals && r.devices == sound.devices)
+        damage_air(&r, length);
+    ask_ventilation(LIBRARY, &r, length, &a);
+    ask_ventilation(HAND, &r, length, &b);
+    same = same_answer(&a, &b, entries);
+    met[a.number]++;
+    for (size_t i = 0; a.number == 0 && i < entries; i++)
+        air_outcomes[a.outcome[i]]++;
+    if (!same)
+        fprintf(stderr, "ventilation record %u: library %u, hand-written %u, or another row or figures\n", number,
+                (unsigned)a.number, (unsigned)b.number);
+    answer_free(&a);
+    answer_free(&b);
+    r = sound;
+    air_free(&r);
     return same;
 }
 
@@ -259,18 +426,29 @@ static int same_flow(unsigned number)
     return same;
 }
 
+static void print_outcomes(const char *of, const unsigned count[10])
+{
+    printf("# outcomes met%s:", of);
+    for (size_t k = 0; k < 10; k++)
+        if (count[k] > 0)
+            printf(" %u (%u times)", (unsigned)k, count[k]);
+    printf("\n");
+}
+
 unsigned disagreements(unsigned records)
 {
     unsigned found = 0;
     for (unsigned k = 0; k < records; k++)
-        found += (unsigned)!same_quantify(k) + (unsigned)!same_read(k) + (unsigned)!same_flow(k);
-    printf("# %u small records, record files and exports each, answered differently: %u\n# refusals met:", records, found);
+        found += (unsigned)!same_quantify(k) + (unsigned)!same_ventilation(k) + (unsigned)!same_read(k)
+                 + (unsigned)!same_flow(k);
+    printf("# %u small records, ventilation records, record files and exports each, ", records);
+    printf("answered differently: %u\n", found);
+    printf("# refusals met:");
     for (size_t k = 1; k < sizeof met / sizeof *met; k++)
         if (met[k] > 0)
             printf(" %u (%u times)", (unsigned)k, met[k]);
-    printf("; accepted: %u\n# outcomes met:", met[0]);
-    for (size_t k = 0; k < sizeof outcomes / sizeof *outcomes; k++)
-        printf(" %u (%u times)", (unsigned)k, outcomes[k]);
-    printf("\n");
+    printf("; accepted: %u\n", met[0]);
+    print_outcomes("", outcomes);
+    print_outcomes(" in ventilation records", air_outcomes);
     return found;
 }

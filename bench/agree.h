@@ -2,8 +2,9 @@
 #ifndef AGREE_H
 #define AGREE_H
 
-/* Asks both about so many small records, sound and damaged, and about as many small record files and exports. Gives how many were answered
- * differently and names each on standard error; says on standard output how often each refusal was met. */
+/* Asks both about so many small records, sound and damaged, and about as many ventilation records, small record files
+ * and exports. Gives how many were answered differently and names each on standard error; says on standard output how
+ * often each refusal was met. */
 unsigned disagreements(unsigned records);
 
 #endif

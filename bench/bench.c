@@ -17,10 +17,14 @@
 #include <time.h>
 
 enum { SEED = 2015 };
-enum { REALISTIC, DENSE_GAPS, LAST_WRONG, READ_LONG, READ_SHORT, FLOW_REALISTIC, FLOW_DENSE_GAPS, BUCKETS };
+enum {
+    REALISTIC, DENSE_GAPS, LAST_WRONG, READ_LONG, READ_SHORT, FLOW_REALISTIC, FLOW_DENSE_GAPS,
+    AIR_REALISTIC, AIR_LAST_WRONG, BUCKETS
+};
 
-static const char *const names[BUCKETS] = {"quantify-realistic", "quantify-dense-gaps", "quantify-last-wrong", "read-long",
-                                           "read-short",         "flow-realistic",      "flow-dense-gaps"};
+static const char *const names[BUCKETS] = {
+    "quantify-realistic", "quantify-dense-gaps", "quantify-last-wrong", "read-long", "read-short",
+    "flow-realistic", "flow-dense-gaps", "ventilation-realistic", "ventilation-last-wrong"};
 
 struct sizes {
     uint32_t intervals, devices, text[2], repetitions, small;
@@ -28,9 +32,10 @@ struct sizes {
 
 /* A bucket's data, and for each implementation arrays of its own. */
 struct bucket {
-    int is_text, is_flow;
+    int is_text, is_flow, is_air;
     struct record record;
-    size_t length[SLICES], entries;
+    struct air air;
+    size_t length[SLICES], air_length[AIR_SLICES], entries;
     struct answer answer[BOTH];
     uint8_t *text;
     size_t text_length;
@@ -45,13 +50,21 @@ static struct bucket made(int k, const struct sizes *s)
     memset(&b, 0, sizeof b);
     draw_from(SEED);
     b.is_text = k == READ_LONG || k == READ_SHORT;
-    b.is_flow = k >= FLOW_REALISTIC;
+    b.is_flow = k == FLOW_REALISTIC || k == FLOW_DENSE_GAPS;
+    b.is_air = k == AIR_REALISTIC || k == AIR_LAST_WRONG;
     b.record = b.is_text ? record_new(s->text[k - READ_LONG], 1) : record_new(s->intervals, s->devices);
     b.entries = (size_t)b.record.intervals * b.record.devices;
-    if (k == DENSE_GAPS || k == FLOW_DENSE_GAPS)
+    if (b.is_air) {
+        b.air = air_new(s->intervals, s->devices);
+        fill_air(&b.air, 1);
+        if (k == AIR_LAST_WRONG)
+            b.air.status[b.entries - 1] = 4;
+        right_air_lengths(&b.air, b.air_length);
+    } else if (k == DENSE_GAPS || k == FLOW_DENSE_GAPS) {
         fill_dense_gaps(&b.record, 8);
-    else
+    } else {
         fill_realistic(&b.record, 1);
+    }
     if (k == LAST_WRONG)
         b.record.status[b.entries - 1] = 4;
     right_lengths(&b.record, b.length);
@@ -78,6 +91,7 @@ static struct bucket made(int k, const struct sizes *s)
 static void unmake(struct bucket *b)
 {
     record_free(&b->record);
+    air_free(&b->air);
     free(b->text);
     free(b->exports);
     for (int w = 0; w < BOTH; w++) {
@@ -93,6 +107,8 @@ static void ask(struct bucket *b, int which)
         ask_flow(which, b->exports, CMM_SAMPLE * (size_t)b->record.intervals, b->record.devices, &b->filling[which]);
     else if (b->is_text)
         ask_read(which, b->text, b->text_length, &b->reading[which]);
+    else if (b->is_air)
+        ask_ventilation(which, &b->air, b->air_length, &b->answer[which]);
     else
         ask_quantify(which, &b->record, b->length, &b->answer[which]);
 }

@@ -86,6 +86,22 @@ void ask_quantify(int which, const struct record *r, const size_t l[SLICES], str
         a->content_used, l[CONTENT_USED], a->accounts, a->amounts, a->balances, a->at);
 }
 
+void right_air_lengths(const struct air *r, size_t length[AIR_SLICES])
+{
+    for (size_t k = 0; k < AIR_SLICES; k++)
+        length[k] = k == AIR_QUANTITY || k == AIR_FACTOR ? r->fuels : (size_t)r->intervals * r->devices;
+}
+
+void ask_ventilation(int which, const struct air *r, const size_t l[AIR_SLICES], struct answer *a)
+{
+    const struct stream *in = &r->inlet, *out = &r->exhaust;
+    a->number = (which == LIBRARY ? cmm_quantify_ventilation : hand_quantify_ventilation)(
+        r->intervals, r->devices, in->flow, l[INLET_FLOW], in->ppm, l[INLET_PPM], in->temp, l[INLET_TEMP],
+        in->press, l[INLET_PRESS], out->flow, l[EXHAUST_FLOW], out->ppm, l[EXHAUST_PPM], out->temp, l[EXHAUST_TEMP],
+        out->press, l[EXHAUST_PRESS], r->status, l[AIR_STATUS], r->quantity, l[AIR_QUANTITY], r->factor, l[AIR_FACTOR],
+        a->outcome, l[AIR_OUTCOME], a->accounts, a->amounts, a->balances, a->at);
+}
+
 void ask_read(int which, const uint8_t *text, size_t length, struct reading *a)
 {
     a->number = (which == LIBRARY ? cmm_read_record : hand_read_record)(

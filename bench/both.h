@@ -10,7 +10,14 @@ enum { LIBRARY, HAND, BOTH };
 /* The lengths that a call of quantification says, in the order of the parameters. */
 enum { KINDS, COUNTS, PLACES, DRIFTS, FLOW, CONTENT, TEMP, PRESS, STATUS, QUANTITY, FACTOR, OUTCOME, FLOW_USED, CONTENT_USED, SLICES };
 
-/* What a call of quantification answers, with the rows that it is lent. */
+/* The same for ventilation air. */
+enum {
+    INLET_FLOW, INLET_PPM, INLET_TEMP, INLET_PRESS, EXHAUST_FLOW, EXHAUST_PPM, EXHAUST_TEMP, EXHAUST_PRESS, AIR_STATUS,
+    AIR_QUANTITY, AIR_FACTOR, AIR_OUTCOME, AIR_SLICES
+};
+
+/* What a call of quantification answers, with the rows that it is lent. That of ventilation air
+ * leaves the rows of values used as they are. */
 struct answer {
     uint64_t number, at[2], accounts[CMM_ACCOUNTS], amounts[CMM_AMOUNTS];
     int64_t balances[CMM_BALANCES];
@@ -48,6 +55,8 @@ void filling_free(struct filling *a);
 
 void right_lengths(const struct record *r, size_t length[SLICES]);
 void ask_quantify(int which, const struct record *r, const size_t length[SLICES], struct answer *a);
+void right_air_lengths(const struct air *r, size_t length[AIR_SLICES]);
+void ask_ventilation(int which, const struct air *r, const size_t length[AIR_SLICES], struct answer *a);
 void ask_read(int which, const uint8_t *text, size_t length, struct reading *a);
 /* Of each of so many devices the export of that length, one after the other. */
 void ask_flow(int which, const uint8_t *exports, size_t length, size_t devices, struct filling *a);

@@ -1,5 +1,6 @@
-/* hand.h: the work of cmm_quantify, cmm_read_record and cmm_read_flow once more, written by hand in C from document 01 and proved by nothing.
- * bench/run measures the proved library against it. Arguments, answers and what is written are those of include/cmm.h. */
+/* hand.h: the work of cmm_quantify, cmm_quantify_ventilation, cmm_read_record and cmm_read_flow once more, written by
+ * hand in C from the rules and proved by nothing. bench/run measures the proved library against it. Arguments, answers
+ * and what is written are those of include/cmm.h. */
 #ifndef HAND_H
 #define HAND_H
 
@@ -21,6 +22,22 @@ uint64_t hand_quantify(
     uint8_t *outcome, size_t outcome_length,
     uint16_t *flow_used, size_t flow_used_length,
     uint16_t *content_used, size_t content_used_length,
+    uint64_t accounts[CMM_ACCOUNTS], uint64_t amounts[CMM_AMOUNTS], int64_t balances[CMM_BALANCES], uint64_t at[2]);
+
+uint64_t hand_quantify_ventilation(
+    uint32_t intervals, uint32_t devices,
+    const uint16_t *inlet_flow, size_t inlet_flow_length,
+    const uint16_t *inlet_ppm, size_t inlet_ppm_length,
+    const int16_t *inlet_temp, size_t inlet_temp_length,
+    const uint32_t *inlet_press, size_t inlet_press_length,
+    const uint16_t *exhaust_flow, size_t exhaust_flow_length,
+    const uint16_t *exhaust_ppm, size_t exhaust_ppm_length,
+    const int16_t *exhaust_temp, size_t exhaust_temp_length,
+    const uint32_t *exhaust_press, size_t exhaust_press_length,
+    const uint8_t *status, size_t status_length,
+    const uint32_t *quantity, size_t quantity_length,
+    const uint32_t *factor, size_t factor_length,
+    uint8_t *outcome, size_t outcome_length,
     uint64_t accounts[CMM_ACCOUNTS], uint64_t amounts[CMM_AMOUNTS], int64_t balances[CMM_BALANCES], uint64_t at[2]);
 
 uint64_t hand_read_record(

@@ -63,6 +63,45 @@ void record_free(struct record *r)
     free(r->factor);
 }
 
+static struct stream stream_new(size_t all)
+{
+    struct stream s;
+    s.flow = room(all, sizeof *s.flow);
+    s.ppm = room(all, sizeof *s.ppm);
+    s.temp = room(all, sizeof *s.temp);
+    s.press = room(all, sizeof *s.press);
+    return s;
+}
+
+static void stream_free(struct stream *s)
+{
+    free(s->flow);
+    free(s->ppm);
+    free(s->temp);
+    free(s->press);
+}
+
+struct air air_new(uint32_t intervals, uint32_t devices)
+{
+    const size_t all = (size_t)intervals * devices;
+    struct air r = {.intervals = intervals, .devices = devices};
+    r.inlet = stream_new(all);
+    r.exhaust = stream_new(all);
+    r.status = room(all, sizeof *r.status);
+    r.quantity = room(CMM_FUELS_MOST + 1, sizeof *r.quantity);
+    r.factor = room(CMM_FUELS_MOST + 1, sizeof *r.factor);
+    return r;
+}
+
+void air_free(struct air *r)
+{
+    stream_free(&r->inlet);
+    stream_free(&r->exhaust);
+    free(r->status);
+    free(r->quantity);
+    free(r->factor);
+}
+
 /* A walk that stays between two limits. */
 static int32_t walk(int32_t now, uint32_t step, int32_t least, int32_t most)
 {
@@ -101,11 +140,16 @@ static void mark(struct record *r, size_t i, enum series what)
     }
 }
 
-/* Marks stretches of a device, `in_a_year` of them or their share in a shorter record. */
+/* How many of what happens `in_a_year`, or their share in a shorter record. */
+static uint32_t share(uint32_t intervals, uint32_t in_a_year)
+{
+    return (in_a_year * intervals + drawn(CMM_INTERVALS_MOST)) / CMM_INTERVALS_MOST;
+}
+
+/* Marks stretches of a device. */
 static void mark_stretches(struct record *r, size_t from, enum series what, uint32_t in_a_year, uint32_t least, uint32_t most)
 {
-    uint32_t times = (in_a_year * r->intervals + drawn(CMM_INTERVALS_MOST)) / CMM_INTERVALS_MOST;
-    for (; times > 0; times--) {
+    for (uint32_t times = share(r->intervals, in_a_year); times > 0; times--) {
         const uint32_t start = drawn(r->intervals), length = between(least, most);
         for (uint32_t i = start; i < r->intervals && i - start < length; i++)
             mark(r, from + i, what);
@@ -171,6 +215,79 @@ void fill_dense_gaps(struct record *r, uint32_t phase)
             if (i >= phase && (i - phase) % 17 == 16)
                 mark(r, from + i, CONTENT);
         }
+    }
+}
+
+static void fill_running(struct air *r, size_t from)
+{
+    int32_t flow = 15000, ppm = 5000, left = 150, temp = 1800, hot = 6500, press = 101000, behind = 99500;
+    for (size_t i = from; i < from + r->intervals; i++) {
+        flow = walk(flow, 200, 5000, 25000);
+        ppm = walk(ppm, 80, 2000, 9000);
+        left = walk(left, 10, 50, 400);
+        temp = walk(temp, 20, 500, 3000);
+        hot = walk(hot, 40, 4000, 9000);
+        press = walk(press, 100, 96000, 106000);
+        behind = walk(behind, 100, 95000, 104000);
+        r->inlet.flow[i] = (uint16_t)flow;
+        r->inlet.ppm[i] = (uint16_t)ppm;
+        r->inlet.temp[i] = (int16_t)temp;
+        r->inlet.press[i] = (uint32_t)press;
+        r->exhaust.flow[i] = (uint16_t)walk(flow, 300, 5000, 25000);
+        r->exhaust.ppm[i] = (uint16_t)left;
+        r->exhaust.temp[i] = (int16_t)hot;
+        r->exhaust.press[i] = (uint32_t)behind;
+        r->status[i] = 1;
+    }
+}
+
+/* What happens to an oxidiser: one of a stream's readings is missing (four for the inlet, then four for the exhaust),
+ * its status changes, or more methane leaves it than enters it. */
+enum { READINGS = 4, AIR_STOPPED = 2 * READINGS, AIR_ATTESTED, AIR_NO_RECORD, ABOVE };
+
+static void mark_air(struct air *r, size_t i, int what)
+{
+    const struct stream *s = what < READINGS ? &r->inlet : &r->exhaust;
+    switch (what < AIR_STOPPED ? what % READINGS : what) {
+    case 0: s->flow[i] = CMM_FLOW_MISSING; break;
+    case 1: s->ppm[i] = CMM_PPM_MISSING; break;
+    case 2: s->temp[i] = CMM_TEMP_MISSING; break;
+    case 3: s->press[i] = CMM_PRESS_MISSING; break;
+    case AIR_STOPPED: r->status[i] = 0; break;
+    case AIR_ATTESTED: r->status[i] = 2; break;
+    case AIR_NO_RECORD: r->status[i] = 3; break;
+    case ABOVE:
+        r->exhaust.flow[i] = r->inlet.flow[i];
+        r->exhaust.ppm[i] = (uint16_t)(2 * r->inlet.ppm[i]);
+        break;
+    }
+}
+
+static void air_stretches(struct air *r, size_t from, int what, uint32_t in_a_year, uint32_t least, uint32_t most)
+{
+    for (uint32_t times = share(r->intervals, in_a_year); times > 0; times--) {
+        const uint32_t start = drawn(r->intervals), length = between(least, most);
+        for (uint32_t i = start; i < r->intervals && i - start < length; i++)
+            mark_air(r, from + i, what);
+    }
+}
+
+void fill_air(struct air *r, uint32_t often)
+{
+    r->fuels = 4;
+    for (uint32_t k = 0; k < r->fuels; k++) {
+        r->quantity[k] = drawn(1000001);
+        r->factor[k] = drawn(4000001);
+    }
+    for (size_t d = 0; d < r->devices; d++) {
+        const size_t from = d * r->intervals;
+        fill_running(r, from);
+        air_stretches(r, from, ABOVE, 6 * often, 1, 6);
+        air_stretches(r, from, AIR_ATTESTED, 40, 96, 960);
+        air_stretches(r, from, AIR_STOPPED, 40 * often, 4, 48);
+        air_stretches(r, from, AIR_NO_RECORD, 8 * often, 1, 12);
+        for (int what = 0; what < AIR_STOPPED; what++)
+            air_stretches(r, from, what, 12 * often, 1, 12);
     }
 }
 
