@@ -20,7 +20,7 @@ use protocol::Protocol;
 // a year would take twice the time (docs/DECISIONS.md).
 const OVER: u64 = 10000 * Protocol::KELVIN / 25;
 
-const UNDER: u64 = Protocol::PASCAL / 25;
+const UNDER: u32 = (Protocol::PASCAL / 25) as u32;
 
 // Hundredths of a litre times 0.01 %, or litres times ppm, in a litre of methane.
 const METHANE_UNDER: u64 = 1000000;
@@ -32,7 +32,7 @@ pub fn hundredths(flow: u16, temp: i16, press: u32) -> u64
     ensures { λ r. ⌜ (r ≡ hundredthsOf flow temp press) × (r ≤ partsMost) ⌝ }
 {
     let kelvin = protocol::kelvin(temp);
-    (flow as u64) * OVER * (press as u64) / (kelvin * UNDER)
+    (flow as u64) * OVER * (press as u64) / ((kelvin * UNDER) as u64)
 }
 
 // Litres of methane in so many hundredths of a litre of gas, or in so many litres of ventilation air. Ruled out: rounded up or to the
@@ -59,7 +59,7 @@ fn parts_up(flow: u16, temp: i16, press: u32) -> u64
     requires { ⌜ Inside flow temp press ⌝ }
     ensures { λ r. ⌜ (r ≡ correctionUp partsFactor flow temp press) × (r ≤ partsMost + 1) ⌝ }
 {
-    let under = protocol::kelvin(temp) * UNDER;
+    let under = (protocol::kelvin(temp) * UNDER) as u64;
     ((flow as u64) * OVER * (press as u64) + (under - 1)) / under
 }
 

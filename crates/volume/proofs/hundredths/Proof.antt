@@ -30,6 +30,9 @@ absolute c = c .kelvin .ensures ∙ ap kelvinOf (toZ-ofZ (c .before .fits .temp)
 mul-result-3 : tie.Need-mul-result-3
 mul-result-3 c = record { fits = omega (arith, absolute c, c .before .pre .kelvin-most) }
 
+cast-result : tie.Need-cast-result
+cast-result c = record { fits = omega (arith, absolute c, c .before .pre .kelvin-most) }
+
 div-result : tie.Need-div-result
 div-result c = omega (arith, absolute c, c .before .pre .kelvin-least)
 
@@ -50,4 +53,4 @@ returns c = (
 pub hundredths-spec : {M : Type 1} → statement M
 hundredths-spec =
     tie.close
-    (tie.spec kelvin-requires mul-result mul-result-2 mul-result-3 div-result returns)
+    (tie.spec kelvin-requires mul-result mul-result-2 mul-result-3 cast-result div-result returns)

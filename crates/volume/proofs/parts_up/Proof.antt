@@ -27,6 +27,9 @@ product-most c = over-most (c .before .args .flow) (c .before .args .press) (c .
 mul-under : tie.Need-mul-under
 mul-under c = record { fits = omega (arith, absolute c, c .before .pre .kelvin-most) }
 
+cast-under : tie.Need-cast-under
+cast-under c = record { fits = omega (arith, absolute c, c .before .pre .kelvin-most) }
+
 mul-result : tie.Need-mul-result
 mul-result c = record { fits = omega (arith, c .before .pre .flow-most) }
 
@@ -59,4 +62,4 @@ returns c = (
 pub parts-up-spec : {M : Type 1} → statement M
 parts-up-spec =
     tie.close
-    (tie.spec kelvin-requires mul-under mul-result mul-result-2 sub-result add-result div-result returns)
+    (tie.spec kelvin-requires mul-under cast-under mul-result mul-result-2 sub-result add-result div-result returns)
