@@ -1,13 +1,13 @@
 -- The loop over devices: the accounts of the first d devices stand in their places, and the totals are theirs. Start, step and
 -- end, whatever is quantified.
 -- Assumes nothing.
-use Prim.Native.Nat.{ℕ, suc, ◌+◌, ◌*◌, ◌≤◌, ◌<◌}
-use mathlib.Core.Path.{◌≡◌, sym, ap, ◌∙◌, subst, subst₂}
-use mathlib.Core.List.{List, ◌++◌}
+use Prim.Native.Nat.{ℕ, ◌+◌, ◌*◌, ◌≤◌, ◌<◌}
+use mathlib.Core.Path.{◌≡◌, sym, ap, ◌∙◌, subst}
+use mathlib.Core.List.{List}
 use native.Mathlib.Numerals.{add-one}
 use native.Mathlib.Omega.{arith}
-use lib.ListN.{length, drop}
-use Rattle.rows.specs.Rows.{join, put}
+use lib.ListN.{length}
+use Rattle.rows.specs.Rows.{put}
 use Rattle.rows.proofs.Joined.{Row, row_start, row_step}
 use Rattle.protocol.specs.Ranges.{devices_most}
 use Rattle.accounts.specs.declared.Account.{Account}
@@ -15,7 +15,7 @@ use Rattle.accounts.specs.declared.Totals.{Totals}
 use Rattle.accounts.specs.Account.{outcome_kinds, account_size, accounts_of, numbers_of}
 use Rattle.accounts.specs.Totals.{totals_over}
 use Rattle.accounts.specs.Private.{added, Modest, Room}
-use Rattle.accounts.proofs.Adding.{totals_none, totals_more, room_for}
+use Rattle.accounts.proofs.Adding.{totals_more, room_for}
 use Rattle.accounts.proofs.Numbers.{numbers_long}
 
 pub record Booking (account : ℕ → Account) (before now : List ℕ) (t : Totals) (d : ℕ) : Type 0 where

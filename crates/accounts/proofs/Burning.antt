@@ -23,7 +23,7 @@ pub record Burning (f : Fuel) (sum i : ℕ) : Type 0 where
 
 pub line_most : (f : Fuel) → Burnable f → (k : ℕ) → k < length f.quantity → line f k ≤ 4000000000000000
 line_most f x k h =
-    let z : get_or f.quantity k 0 * get_or f.factor k 0 ≤ 1000000000 * 4000000 = mul-le-mul (x.quantity_most_lem k h) (x.factor_most_lem k h) in omega arith
+    let z : get_or f.quantity k 0 * get_or f.factor k 0 ≤ 1000000000 * 4000000 = mul-le-mul (x.quantity_within k h) (x.factor_within k h) in omega arith
 
 sum_most : (f : Fuel) → Burnable f → (i : ℕ) → i ≤ length f.quantity → sum_to i (line f) ≤ 256000000000000000
 sum_most f x i h =

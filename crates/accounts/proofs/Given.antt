@@ -1,6 +1,6 @@
 -- What devices whose accounts count their own outcomes give agrees with itself, whatever was quantified.
 -- Assumes nothing.
-use Prim.Native.Nat.{ℕ, ◌+◌, ◌*◌, ◌≤◌, ◌<◌}
+use Prim.Native.Nat.{ℕ, ◌+◌, ◌*◌, ◌<◌}
 use mathlib.Core.Path.{◌≡◌, sym, ap, ap₂, ◌∙◌, subst}
 use mathlib.Core.Bool.{Bool, not}
 use mathlib.Core.List.{List}
@@ -12,7 +12,7 @@ use Rattle.rows.proofs.Laws.{get_or-join, get_or-build, length-build}
 use Rattle.rows.proofs.Sums.{sum_to_ext, sum_to_add, sum_to_const, counts_add}
 use Rattle.figures.specs.declared.Figures.{Figures}
 use Rattle.accounts.specs.declared.Account.{Account}
-use Rattle.accounts.specs.Account.{outcome_kinds, counted, count_in, account_size, accounts_of}
+use Rattle.accounts.specs.Account.{outcome_kinds, counted, count_in, accounts_of}
 use Rattle.accounts.specs.Totals.{counted_in, replaced_in, excluded_in, totals_over}
 use Rattle.accounts.specs.Sheet.{figures_from}
 use Rattle.accounts.specs.Accounted.{outcome_given, count_given, methane_given, destroyed_given, uncombusted_given, entries_with, Accounted}

@@ -1,5 +1,7 @@
 // A device's account, the sums over devices and the sheet's figures: what every quantification does once its devices' intervals are
 // settled.
+#![tactic(auto)]
+
 ghost use Rattle.std.specs.Prelude.{◌+◌, ◌*◌, ◌≤◌, ◌<◌, ◌≡◌, length};
 ghost use Rattle.rows.specs.Rows.{put};
 ghost use Rattle.protocol.specs.Ranges.{devices_most};
@@ -14,7 +16,7 @@ use figures::Figures;
 use refusals::{Refusal, Told, Verdict};
 
 // What a quantification answers: a sheet's figures, or the first refusal.
-#[derive(Drop)]
+#[derive(Clone, Copy)]
 pub enum Answer {
     Accepted(Figures),
     Refused(Refusal),
@@ -42,7 +44,7 @@ pub const ACCOUNT: usize = 13;
 pub const ACCOUNTS: usize = 208;
 
 // A device's account: how many of its intervals have each outcome, and its litres.
-#[derive(Drop)]
+#[derive(Clone, Copy)]
 pub struct Account {
     pub outcomes: [u64; OUTCOMES],
     pub methane: u64,
@@ -50,7 +52,7 @@ pub struct Account {
     pub uncombusted: u64,
 }
 
-#[derive(Drop)]
+#[derive(Clone, Copy)]
 pub struct Totals {
     pub counted: u64,
     pub replaced: u64,

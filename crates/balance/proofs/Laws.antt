@@ -3,7 +3,7 @@
 use Prim.Native.Nat.{ℕ, zero, suc, ◌+◌, ◌-◌, ◌*◌, ◌/◌, ◌≤◌, ◌<◌, ◌^◌}
 use mathlib.Core.Path.{◌≡◌, refl, sym, ap, ap₂, ◌∙◌, subst}
 use mathlib.Core.Bool.{true, false}
-use native.Mathlib.Nat.{mul-le-mul_left, mul-le-mul, mul-le-mul_right, le_refl, le_trans, zero-add, add-zero, div-le_self}
+use native.Mathlib.Nat.{mul-le-mul, mul-le-mul_right, le_trans, zero-add, add-zero, div-le_self}
 use native.Mathlib.Omega.{arith}
 use lib.IntN.{ℤ, pos, negsuc, ◌-ℤ◌, ◌*ℤ◌, nat_abs}
 use lib.Signed.{◌≤ℤ◌, shr_z, lt_z, non_neg}
@@ -13,13 +13,13 @@ use mir.Syntax.{w64}
 use mir.Val.{SFits, Fits, to_z, of_z}
 use mir.Facts.{to_z-of_z, to_z_pos}
 use Rattle.rows.specs.Rows.{sum_to}
-use Rattle.rows.proofs.Sums.{sum_to_ext, sum_to_add, sum_to_bound}
+use Rattle.rows.proofs.Sums.{sum_to_ext, sum_to_add}
 use Rattle.protocol.specs.Kinds.{thousandths_of}
-use Rattle.protocol.specs.Numbers.{methane_mg, carbon_mg}
+use Rattle.protocol.specs.Numbers.{carbon_mg}
 use Rattle.protocol.proofs.KindLaws.{thousandths_most}
 use Rattle.protocol.specs.Rounding.{ceil_div}
 use Rattle.balance.specs.Balance.{destroyed_of, uncombusted_of, baseline_in_mg, carbon_dioxide_mg, uncombusted_in_mg, over_devices, baseline_all}
-use Rattle.balance.specs.Balance.{carbon_dioxide_all, uncombusted_all, reduction_of, reduction_all, tonnes_of, IsTonnes, credits_of, tonne, device_most, Moderate}
+use Rattle.balance.specs.Balance.{carbon_dioxide_all, uncombusted_all, reduction_of, reduction_all, tonnes_of, IsTonnes, credits_of, tonne, device_most}
 use Rattle.protocol.proofs.Integers.{Is, Floor, above, below, is_self, is_pos, is_mag, is_minus, is_times, is_le, le_is, is_same, is_floor, sub_le, sub_lt}
 use Rattle.protocol.proofs.Integers.{by_order}
 

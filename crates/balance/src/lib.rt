@@ -1,4 +1,6 @@
 // From a device's methane litres to mg and tonnes, every rounding against the operator.
+#![tactic(auto)]
+
 ghost use Rattle.std.specs.Prelude.{◌+◌, ◌*◌, ◌/◌, ◌≤◌, ◌≡◌};
 ghost use Rattle.protocol.specs.Numbers.{methane_mg};
 ghost use Rattle.balance.specs.Balance.{

@@ -1,6 +1,8 @@
 // The sheet's figures, in the order of its lines (rule 11.3) and in their widths (rule 11.4).
 // Quantification makes them and the sheet's text carries them; neither knows the other.
-#[derive(Drop)]
+#![tactic(auto)]
+
+#[derive(Clone, Copy)]
 pub struct Figures {
     pub intervals: u64,
     pub devices: u64,

@@ -1,6 +1,6 @@
 -- Laws of the quotient rounded up.
 -- Assumes nothing.
-use Prim.Native.Nat.{ℕ, ◌+◌, ◌-◌, ◌*◌, ◌/◌, ◌≤◌, ◌<◌}
+use Prim.Native.Nat.{ℕ, ◌+◌, ◌-◌, ◌*◌, ◌≤◌, ◌<◌}
 use mathlib.Core.Path.{◌≡◌}
 use native.Mathlib.Nat.{mul-div-le, lt-mul-div-succ, le_of_mul-le-mul_left, lt_of_mul-lt-mul_left, le_antisymm, mul-le-mul_left, mul-pos}
 use native.Mathlib.Omega.{arith}

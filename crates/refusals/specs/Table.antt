@@ -2,7 +2,6 @@
 -- The order of test is not the order of numbers: each call's own list of steps has it.
 -- Assumes nothing.
 use Rattle.std.specs.Prelude.{ℕ, ◌≡◌, refl, Bool, true, false, List, [], ◌∷◌, eqb}
-use Rattle.std.proofs.Common.{sym, ap, ◌∙◌, arith}
 use Rattle.refusals.specs.declared.Column.{Column}
 use Rattle.refusals.specs.declared.Column.TheVariants.{Flow, Content, Temp, Press, Status}
 use Rattle.refusals.specs.declared.Refusal.{Refusal}
@@ -52,14 +51,14 @@ told_by Clean = nothing
 told_by (Refused r) = told_of r
 
 -- every refusal, in the table's order; what a refusal is given with does not matter here
-abbrev all : List Refusal
+abbrev pub all : List Refusal
 all =
     Intervals ∷ Devices ∷ Lengths ∷ Mine ∷ Kind 0 ∷ Misplaced 0 ∷ Check 0 0 ∷ Fuel 0
     ∷ NoSheet 0 ∷ ShortBuffer 0 ∷ Line 0 ∷ Room ∷ ExportLength ∷ SampleQuality 0 ∷ SampleReading 0
     ∷ Reading Flow 0 0 ∷ Reading Content 0 0 ∷ Reading Temp 0 0 ∷ Reading Press 0 0 ∷ Reading Status 0 0
     ∷ Inlet 0 0 ∷ Exhaust 0 0 ∷ []
 
-lacks : ℕ → List Refusal → Bool
+unfoldable pub lacks : ℕ → List Refusal → Bool
 lacks number [] = true
 lacks number (r ∷ rs) = elim (eqb number (told_of r).number) [ true ↦ false | false ↦ lacks number rs ]
 
@@ -77,7 +76,7 @@ unfolding lacks
 none_is_zero = refl
 
 -- and every refusal is in that list, so that none can be left out of it
-listed : (r : Refusal) → lacks (told_of r).number all ≡ false
+pub listed : (r : Refusal) → lacks (told_of r).number all ≡ false
 unfolding lacks
 listed Intervals = refl
 listed Devices = refl
@@ -101,19 +100,3 @@ listed (Reading Press device interval) = refl
 listed (Reading Status device interval) = refl
 listed (Inlet device interval) = refl
 listed (Exhaust device interval) = refl
-
--- rule 4.8: 8, once any wrong reading's, is given up: no refusal has it, and so no verdict
-eight_lacks : lacks 8 all ≡ true
-unfolding lacks
-eight_lacks = refl
-
-pub never_eight : (r : Refusal) → (told_of r).number ≡ 8 → ⊥
-never_eight r e =
-    let has : lacks 8 all ≡ false = ap (λ (n : ℕ). lacks n all) (sym e) ∙ listed r in
-    let lack : lacks 8 all ≡ true = eight_lacks in
-    let z : ◌≡◌ {A = ℕ} 0 1 = cc in
-    omega arith
-
-pub verdict_never_eight : (v : Verdict) → (told_by v).number ≡ 8 → ⊥
-verdict_never_eight Clean e = omega arith
-verdict_never_eight (Refused r) e = never_eight r e

@@ -1,9 +1,11 @@
 // What any call refuses: the one table of refusals, below every crate that gives one. A number that is retired is never used again.
+#![tactic(auto)]
+
 ghost use Rattle.std.specs.Prelude.{◌≡◌};
 ghost use Rattle.refusals.specs.Table.{reading_number, told_of, told_by};
 
 // Which of an interval's readings: the series that it stands in.
-#[derive(Drop)]
+#[derive(Clone, Copy)]
 pub enum Column {
     Flow,
     Content,
@@ -13,7 +15,7 @@ pub enum Column {
 }
 
 // What is refused, with the device and the place where the rules name one.
-#[derive(Drop)]
+#[derive(Clone, Copy)]
 pub enum Refusal {
     Intervals,
     Devices,
@@ -36,14 +38,14 @@ pub enum Refusal {
 }
 
 // Nothing is wrong, or the first refusal.
-#[derive(Drop)]
+#[derive(Clone, Copy)]
 pub enum Verdict {
     Clean,
     Refused(Refusal),
 }
 
 // A refusal as it is given: its number, and the device and the place of the first offender.
-#[derive(Drop)]
+#[derive(Clone, Copy)]
 pub struct Told {
     pub number: u64,
     pub device: usize,

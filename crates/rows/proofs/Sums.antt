@@ -6,7 +6,7 @@ use mathlib.Core.Bool.{Bool, true, false}
 use lib.Dec.{eqb}
 use native.Mathlib.Nat.{le_refl, le_step, lt-suc_self, mul-add, mul-zero, zero-mul, suc-mul, not-suc-le-zero, le_of_suc-le-suc, add-le-add, eq-or-lt_of_le}
 use native.Mathlib.Omega.{arith}
-use mathlib.Core.Logic.{◌⊎◌, ⊎_elim}
+use mathlib.Core.Logic.{⊎_elim}
 use borrow.Author.Tests.{eq-eqb, ne_eqb}
 use Rattle.rows.specs.Rows.{sum_to, count_of, hit, pick}
 

@@ -1,4 +1,6 @@
 // Lists as the specifications speak of them (specs/Rows.antt, laws in proofs/Laws.antt), and the scan that goes with them.
+#![tactic(auto)]
+
 ghost use Rattle.std.specs.Prelude.{ℕ, ◌≤◌, ◌≡◌, not, eqb, length, get_or};
 ghost use Rattle.rows.specs.Rows.{FirstOf};
 

@@ -157,6 +157,6 @@ module _ (f : Fuel) (x : Clear (fuels_step f)) where
       record {
         same_length = e;
         few = fuels_few;
-        quantity_most_lem = λ j h. ltb-false _ _ (line_clear j h).0;
-        factor_most_lem = λ j h. ltb-false _ _ (line_clear j h).1;
+        quantity_within = λ j h. ltb-false _ _ (line_clear j h).0;
+        factor_within = λ j h. ltb-false _ _ (line_clear j h).1;
       }

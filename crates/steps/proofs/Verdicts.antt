@@ -93,6 +93,7 @@ refused_first (s ∷ ss) r e =
     (λ x q. Refuses.later x (refused_first ss r (sym q ∙ e)))
 
 pub first_refused : (ss : List Step) (r : Refusal) → Refuses ss r → verdict_of ss ≡ Refused r
+first_refused [] r x' = elim x' [ ]
 first_refused (s ∷ ss) r (Refuses.here k x h e) = stops s ss k x h ∙ ap Refused (sym e)
 first_refused (s ∷ ss) r (Refuses.later x y) = clear_goes s ss x ∙ first_refused ss r y
 
@@ -116,6 +117,7 @@ pub part_stops : (xs ys : List Step) (r : Refusal) → verdict_of xs ≡ Refused
 part_stops xs ys r e = first_refused (xs ++ ys) r (longer xs (refused_first xs r e))
   where
     longer : (xs : List Step) → Refuses xs r → Refuses (xs ++ ys) r
+    longer [] x' = elim x' [ ]
     longer (s ∷ ss) (Refuses.here k x h q) = Refuses.here k x h q
     longer (s ∷ ss) (Refuses.later x y) = Refuses.later x (longer ss y)
 
@@ -142,5 +144,6 @@ pub data Among : Step → List Step → Type 0 where
   under : {s t : Step} {ss : List Step} → Among s ss → Among s (t ∷ ss)
 
 pub clear_of : {s : Step} {ss : List Step} → AllClear ss → Among s ss → Clear s
+clear_of {s = s} AllClear.none x3 = elim x3 [ ]
 clear_of (AllClear.more x y) Among.top = x
 clear_of (AllClear.more x y) (Among.under m) = clear_of y m

@@ -1,4 +1,6 @@
 // The steps that quantifications share, each a scan for its first offender: lengths, kinds, checks and fuel lines.
+#![tactic(auto)]
+
 ghost use Rattle.std.specs.Prelude.{◌+◌, ◌*◌, ◌<◌, ◌≡◌, ltb, length};
 ghost use Rattle.rows.specs.Rows.{either};
 ghost use Rattle.protocol.specs.Kinds.{misplaced};

@@ -29,7 +29,7 @@ pub hundredths_most : (flow : ℕ) (temp : ℤ) (press : ℕ) → Inside flow te
 hundredths_most flow temp press i =
     subst (λ (n : ℕ). n ≤ parts_most) (same_hundredths flow temp press)
     (quotient_most (flow * parts_over * press) (kelvin_of temp) (flow * parts_over * press / (kelvin_of temp * under))
-    (over_most flow press i.flow_most_lem i.press_most) i.kelvin_least (mul-div-le (flow * parts_over * press) (kelvin_of temp * under)))
+    (over_most flow press i.flow_within i.press_most) i.kelvin_least (mul-div-le (flow * parts_over * press) (kelvin_of temp * under)))
 
 -- rounded up they are one more at the most
 pub up_most : (flow : ℕ) (temp : ℤ) (press : ℕ) → Inside flow temp press → correction_up parts_factor flow temp press ≤ parts_most + 1

@@ -1,7 +1,7 @@
 -- The correction rounded up beside the one rounded down, over any factor: not below the exact parts, by less than a part
 -- above them, and so the same as rounded down or one part more.
 -- Assumes nothing.
-use Prim.Native.Nat.{ℕ, ◌+◌, ◌*◌, ◌/◌, ◌≤◌, ◌<◌}
+use Prim.Native.Nat.{ℕ, ◌+◌, ◌*◌, ◌≤◌, ◌<◌}
 use native.Mathlib.Nat.{mul-div-le, lt-mul-div-succ, le_of_mul-le-mul_left, lt_of_mul-lt-mul_left}
 use native.Mathlib.Omega.{arith}
 use lib.IntN.{ℤ}

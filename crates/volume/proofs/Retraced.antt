@@ -113,10 +113,10 @@ digits flow content temp press i h =
     let last : cell_j flow temp press ≤ 151237694 = below_most flow temp press (product flow press) (cell_j flow temp press) i (j_is flow temp press) in
     let most : cell_l flow temp press ≤ parts_most = l_most flow temp press i in
     record {
-      e_digits = omega (arith, i.flow_most_lem);
+      e_digits = omega (arith, i.flow_within);
       f_digits = omega (arith, i.kelvin_most);
-      g_digits = omega (arith, div-le_self (cell_e flow) (cell_f temp), i.flow_most_lem);
-      g_product_digits = omega (arith, first, i.flow_most_lem);
+      g_digits = omega (arith, div-le_self (cell_e flow) (cell_f temp), i.flow_within);
+      g_product_digits = omega (arith, first, i.flow_within);
       h_digits = omega (arith, rest);
       h_product_digits = omega (arith, product-rest);
       i_digits = omega (arith, most);

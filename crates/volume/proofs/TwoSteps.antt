@@ -66,11 +66,11 @@ small flow temp press i =
     let most : hundredths_of flow temp press ≤ parts_most = hundredths_most flow temp press i in
     let rest : product flow press % divisor temp < divisor temp = mod-lt (product flow press) (omega (arith, i.kelvin_least)) in
     record {
-      flow_small = omega (arith, i.flow_most_lem);
+      flow_small = omega (arith, i.flow_within);
       press_small = omega (arith, i.press_most);
       kelvin_small = omega (arith, i.kelvin_most);
-      scaled_small = omega (arith, i.flow_most_lem);
-      product_small = omega (arith, product_most flow press i.flow_most_lem i.press_most);
+      scaled_small = omega (arith, i.flow_within);
+      product_small = omega (arith, product_most flow press i.flow_within i.press_most);
       divisor_small = omega (arith, i.kelvin_most);
       litres_small = omega (arith, same, most);
       first_small = omega (arith, same, most);

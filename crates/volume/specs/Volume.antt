@@ -57,7 +57,7 @@ methane_litres_up flow content temp press = methane_litres_up_in (correction_up 
 
 -- the readings for which the numbers fit 64 bits: those inside the ranges of rule 3.3
 pub record Inside (flow : ℕ) (temp : ℤ) (press : ℕ) : Type 0 where
-  pub flow_most_lem : flow ≤ flow_most
+  pub flow_within : flow ≤ flow_most
   pub kelvin_least : 23315 ≤ kelvin_of temp
   pub kelvin_most : kelvin_of temp ≤ 37315
   pub press_most : press ≤ 300000

@@ -1,4 +1,6 @@
 // Corrected volume and methane litres, each rounded down, or each rounded up. Callers cite `methane_litres` and `methane_litres_up` only.
+#![tactic(auto)]
+
 ghost use Rattle.std.specs.Prelude.{◌+◌, ◌≤◌, ◌≡◌};
 ghost use Rattle.protocol.specs.Ranges.{ppm_most};
 ghost use Rattle.volume.specs.Volume.{
