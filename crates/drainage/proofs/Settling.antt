@@ -97,7 +97,7 @@ module _ (c : Call) (before : Results) (x : Unrefused c) where
 
   pub possible : Possible (used_in c after)
   unfolding used_in
-  possible = record { warm = λ d k h l e. (inside_at d k h l e).0; content_most_lem = λ d k h l e. (inside_at d k h l e).1 }
+  possible = record { warm = λ d k h l e. (inside_at d k h l e).0; content_within = λ d k h l e. (inside_at d k h l e).1 }
 
   litres_at_lem : (d : ℕ) → d < c.devices → reported_q (used_in c after) d ≡ litres_in (lent_in c) d
   unfolding reported_q used_in litres_in methane_of litres_at litres_for
@@ -199,7 +199,7 @@ pub moderate_call : (c : Call) → Unrefused c → (t : Totals) (fuel : ℕ) →
     → Moderate t.baseline_mg (t.co2_mg + t.uncombusted_mg + fuel)
 moderate_call c x t fuel e l =
     subst (λ (s : Totals). Moderate s.baseline_mg (s.co2_mg + s.uncombusted_mg + fuel)) (sym e)
-    (moderate c.devices (account_in (lent_in c)) x.shape.devices_most_lem (modest (lent_in c) c.devices (sound c x)) fuel l)
+    (moderate c.devices (account_in (lent_in c)) x.shape.devices_within (modest (lent_in c) c.devices (sound c x)) fuel l)
 
 -- the sheet of the totals and the fuel is the call's
 pub sheet_is : (c : Call) (t : Totals) (fuel : ℕ) (f : Figures) → f ≡ figures_from c.intervals c.devices t fuel

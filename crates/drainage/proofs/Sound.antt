@@ -1,6 +1,6 @@
 -- What a clean verdict gives the devices' rows.
 -- Assumes nothing.
-use Prim.Native.Nat.{ℕ, ◌+◌, ◌-◌, ◌*◌, ◌≤◌, ◌<◌}
+use Prim.Native.Nat.{ℕ, ◌+◌, ◌*◌, ◌≤◌, ◌<◌}
 use mathlib.Core.Path.{◌≡◌, sym, ap, ◌∙◌, subst, subst₂}
 use mathlib.Core.List.{List}
 use native.Mathlib.Nat.{add-sub_cancel_left}
@@ -65,11 +65,11 @@ module _ (c : Call) (x : Unrefused c) (d : ℕ) (h : d < c.devices) where
       let long : Long (series_part c.series c.intervals d) c.intervals = part_long c.series c.devices c.intervals d h x.shape.long in
       let n : length (row_of c.series.flow c.intervals d) ≡ c.intervals = long.flow in
       record {
-        few = subst (λ (m : ℕ). m ≤ 35136) (sym n) x.shape.intervals_most_lem;
+        few = subst (λ (m : ℕ). m ≤ 35136) (sym n) x.shape.intervals_within;
         long = subst (Long (series_part c.series c.intervals d)) (sym n) long;
         kept = checks_part_long c.checks c.devices d h x.shape.roomy;
         ordered = λ g l. subst (Ordered (instrument_of (records_of (lent_in c) d) g)) (sym n) (ordered g l);
-        in_range_lem = subst (InRange (series_part c.series c.intervals d)) (sym n) (part_in_range c.series c.devices c.intervals d h x.in_range_lem);
+        readings_in_range = subst (InRange (series_part c.series c.intervals d)) (sym n) (part_in_range c.series c.devices c.intervals d h x.readings_in_range);
       }
 
 pub sound : (c : Call) → Unrefused c → Sound (lent_in c) c.devices
@@ -77,8 +77,8 @@ sound c x =
     let s = x.shape in
     record {
       some = s.intervals_least;
-      few = s.intervals_most_lem;
-      few_devices = s.devices_most_lem;
+      few = s.intervals_within;
+      few_devices = s.devices_within;
       kinds_long = s.kinds_long;
       roomy = s.roomy;
       long = s.long;

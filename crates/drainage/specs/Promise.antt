@@ -1,6 +1,6 @@
 -- What the quantification of drainage gas promises of every call: the customer's three demands.
 -- Assumes nothing.
-use Rattle.std.specs.Prelude.{ℕ, ◌+◌, ◌*◌, ◌≡◌, pos, length, get_or}
+use Rattle.std.specs.Prelude.{◌+◌, ◌*◌, ◌≡◌, pos, length, get_or}
 use Rattle.refusals.specs.declared.Verdict.{Verdict}
 use Rattle.refusals.specs.declared.Verdict.TheVariants.{Clean, Refused as Offended}
 use Rattle.steps.specs.Step.{Tells}

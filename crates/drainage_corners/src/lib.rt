@@ -1,1 +1,2 @@
 // No code: the definitions computed at their corners (specs/).
+#![tactic(auto)]

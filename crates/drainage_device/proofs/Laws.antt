@@ -49,12 +49,12 @@ low_right reading b h =
           go (get_or reading i 0) (get_or reading i mark) same e (h i l);
     }
   where
-    in_range_lem : (v : ℕ) (p q : Bool) → leb v b ≡ p → missing v ≡ q → q ≡ false → either p q ≡ true → v ≤ b
-    in_range_lem v true q a c n z = leb-true v b a
-    in_range_lem v false q a c n z = let y : ◌≡◌ {A = ℕ} 0 1 = cc in absurd (let w : ⊥ = omega arith in w)
+    readings_in_range : (v : ℕ) (p q : Bool) → leb v b ≡ p → missing v ≡ q → q ≡ false → either p q ≡ true → v ≤ b
+    readings_in_range v true q a c n z = leb-true v b a
+    readings_in_range v false q a c n z = let y : ◌≡◌ {A = ℕ} 0 1 = cc in absurd (let w : ⊥ = omega arith in w)
 
     go : (v w : ℕ) → v ≡ w → missing w ≡ false → either (leb v b) (missing v) ≡ true → w ≤ b
-    go v w s e z = subst (λ (x : ℕ). x ≤ b) s (in_range_lem v (leb v b) (missing v) refl refl (ap missing s ∙ e) z)
+    go v w s e z = subst (λ (x : ℕ). x ≤ b) s (readings_in_range v (leb v b) (missing v) refl refl (ap missing s ∙ e) z)
 
 -- a series with its drift taken out goes with its readings
 pub corrected_goes : (c : Instrument) (reading : List ℕ) (b : ℕ) → Low reading b → Goes reading (build (length reading) (corrected_at c reading)) b
@@ -183,11 +183,11 @@ without_content r i e z =
     (replaced_as 1 (replacement_at r.series.flow (corrected_flow r) i)) (replaced_as 2 (replacement_at r.series.content (corrected_content r) i)) z)
 
 -- an entry's values are those that its outcome leaves of what is held
-entry_flow : (h : Held) (i : ℕ) → (entry_at h i).flow ≡ used_for (entry_at h i).outcome (get_or h.flow_held_lem i mark)
+entry_flow : (h : Held) (i : ℕ) → (entry_at h i).flow ≡ used_for (entry_at h i).outcome (get_or h.held_flow i mark)
 unfolding entry_at entry_of
 entry_flow h i = refl
 
-entry_content : (h : Held) (i : ℕ) → (entry_at h i).content ≡ used_for (entry_at h i).outcome (get_or h.content_held_lem i mark)
+entry_content : (h : Held) (i : ℕ) → (entry_at h i).content ≡ used_for (entry_at h i).outcome (get_or h.held_content i mark)
 unfolding entry_at entry_of
 entry_content h i = refl
 
@@ -197,9 +197,9 @@ entry_litres_used : (h : Held) (i : ℕ)
 unfolding entry_at entry_of litres_for
 entry_litres_used h i = go (counted (entry_at h i).outcome)
   where
-    go : (t : Bool) → pick t (methane_litres (get_or h.flow_held_lem i mark) (get_or h.content_held_lem i mark) (get_or h.series.temp i (pos 0))
+    go : (t : Bool) → pick t (methane_litres (get_or h.held_flow i mark) (get_or h.held_content i mark) (get_or h.series.temp i (pos 0))
         (get_or h.series.press i 0)) 0
-        ≡ pick t (methane_litres (pick t (get_or h.flow_held_lem i mark) 0) (pick t (get_or h.content_held_lem i mark) 0) (get_or h.series.temp i (pos 0))
+        ≡ pick t (methane_litres (pick t (get_or h.held_flow i mark) 0) (pick t (get_or h.held_content i mark) 0) (get_or h.series.temp i (pos 0))
         (get_or h.series.press i 0)) 0
     go true = refl
     go false = refl
@@ -211,16 +211,16 @@ pub held_of : Records → Held
 held_of r =
     record {
       series = r.series;
-      flow_held_lem = build (intervals_of r) (filled_at r.series.flow (corrected_flow r));
-      content_held_lem = build (intervals_of r) (filled_at r.series.content (corrected_content r));
+      held_flow = build (intervals_of r) (filled_at r.series.flow (corrected_flow r));
+      held_content = build (intervals_of r) (filled_at r.series.content (corrected_content r));
     }
 
 module _ (r : Records) (x : Right r) where
   pub flow_low : Low r.series.flow flow_most
-  flow_low = low_right r.series.flow flow_most x.in_range_lem.flow
+  flow_low = low_right r.series.flow flow_most x.readings_in_range.flow
 
   pub content_low : Low r.series.content content_most
-  content_low = low_right r.series.content content_most (λ i l. x.in_range_lem.content i (subst (λ (m : ℕ). i < m) x.long.content l))
+  content_low = low_right r.series.content content_most (λ i l. x.readings_in_range.content i (subst (λ (m : ℕ). i < m) x.long.content l))
 
   flow_goes : Goes r.series.flow (corrected_flow r) flow_most
   unfolding corrected_flow
@@ -241,13 +241,13 @@ module _ (r : Records) (x : Right r) where
       replacement_bounded r.series.content (corrected_content r) i content_most (subst (λ (m : ℕ). i < m) (sym x.long.content) l) content_goes
 
   -- what is held for an interval
-  flow_held_lem : (i : ℕ) → i < intervals_of r → get_or (held_of r).flow_held_lem i mark ≡ filled_at r.series.flow (corrected_flow r) i
+  held_flow : (i : ℕ) → i < intervals_of r → get_or (held_of r).held_flow i mark ≡ filled_at r.series.flow (corrected_flow r) i
   unfolding held_of
-  flow_held_lem i l = get_or-build (intervals_of r) (filled_at r.series.flow (corrected_flow r)) i mark l
+  held_flow i l = get_or-build (intervals_of r) (filled_at r.series.flow (corrected_flow r)) i mark l
 
-  content_held_lem : (i : ℕ) → i < intervals_of r → get_or (held_of r).content_held_lem i mark ≡ filled_at r.series.content (corrected_content r) i
+  held_content : (i : ℕ) → i < intervals_of r → get_or (held_of r).held_content i mark ≡ filled_at r.series.content (corrected_content r) i
   unfolding held_of
-  content_held_lem i l = get_or-build (intervals_of r) (filled_at r.series.content (corrected_content r)) i mark l
+  held_content i l = get_or-build (intervals_of r) (filled_at r.series.content (corrected_content r)) i mark l
 
   pub ready : ReadyAt (held_of r) (intervals_of r)
   unfolding held_of
@@ -259,15 +259,15 @@ module _ (r : Records) (x : Right r) where
         content_rows = length-build (intervals_of r) (filled_at r.series.content (corrected_content r));
         ready = λ i l.
             record {
-              flow_held_lem =
-                  subst (λ (v : ℕ). Holds (get_or r.series.flow i mark) v flow_most) (sym (flow_held_lem i l))
+              held_flow =
+                  subst (λ (v : ℕ). Holds (get_or r.series.flow i mark) v flow_most) (sym (held_flow i l))
                   (filled_holds r.series.flow (corrected_flow r) flow_most i flow_goes (omega arith) l);
-              content_held_lem =
-                  subst (λ (v : ℕ). Holds (get_or r.series.content i mark) v content_most) (sym (content_held_lem i l))
+              held_content =
+                  subst (λ (v : ℕ). Holds (get_or r.series.content i mark) v content_most) (sym (held_content i l))
                   (filled_holds r.series.content (corrected_content r) content_most i content_goes (omega arith)
                   (subst (λ (m : ℕ). i < m) (sym x.long.content) l));
-              temp_right_lem = x.in_range_lem.temp i l;
-              press_right_lem = x.in_range_lem.press i l;
+              temp_in_range = x.readings_in_range.temp i l;
+              press_in_range = x.readings_in_range.press i l;
             };
       }
 
@@ -276,11 +276,11 @@ module _ (r : Records) (x : Right r) where
   outcome_is i l =
       outcome_same (get_or r.series.status i 0) (either (temp_missing (get_or r.series.temp i (pos 0))) (press_missing (get_or r.series.press i 0)))
       (missing_at r.series.flow i) (missing_at r.series.content i)
-      (held_outcome 1 (get_or (held_of r).flow_held_lem i mark)) (replaced_as 1 (replacement_at r.series.flow (corrected_flow r) i))
-      (held_outcome 2 (get_or (held_of r).content_held_lem i mark)) (replaced_as 2 (replacement_at r.series.content (corrected_content r) i))
-      (λ e. ap (held_outcome 1) (flow_held_lem i l ∙ filled_missing r.series.flow (corrected_flow r) i e)
+      (held_outcome 1 (get_or (held_of r).held_flow i mark)) (replaced_as 1 (replacement_at r.series.flow (corrected_flow r) i))
+      (held_outcome 2 (get_or (held_of r).held_content i mark)) (replaced_as 2 (replacement_at r.series.content (corrected_content r) i))
+      (λ e. ap (held_outcome 1) (held_flow i l ∙ filled_missing r.series.flow (corrected_flow r) i e)
       ∙ held_as 1 flow_most (replacement_at r.series.flow (corrected_flow r) i) (flow_bounded i l) (omega arith))
-      (λ e. ap (held_outcome 2) (content_held_lem i l ∙ filled_missing r.series.content (corrected_content r) i e)
+      (λ e. ap (held_outcome 2) (held_content i l ∙ filled_missing r.series.content (corrected_content r) i e)
       ∙ held_as 2 content_most (replacement_at r.series.content (corrected_content r) i)
       (content_bounded i l) (omega arith))
 
@@ -288,14 +288,14 @@ module _ (r : Records) (x : Right r) where
   unfolding flow_used_at
   flow_is i l =
       entry_flow (held_of r) i
-      ∙ ap₂ used_for (outcome_is i l) (flow_held_lem i l)
+      ∙ ap₂ used_for (outcome_is i l) (held_flow i l)
       ∙ same_used r.series.flow (corrected_flow r) i (outcome_at r i) 1 flow_most (flow_bounded i l) (without_flow r i) refl
 
   content_is : (i : ℕ) → i < intervals_of r → (entry_at (held_of r) i).content ≡ content_used_at r i
   unfolding content_used_at
   content_is i l =
       entry_content (held_of r) i
-      ∙ ap₂ used_for (outcome_is i l) (content_held_lem i l)
+      ∙ ap₂ used_for (outcome_is i l) (held_content i l)
       ∙ same_used r.series.content (corrected_content r) i (outcome_at r i) 2 content_most (content_bounded i l) (without_content r i) refl
 
   litres_is : (i : ℕ) → i < intervals_of r → (entry_at (held_of r) i).litres ≡ litres_at r i
@@ -336,9 +336,9 @@ module _ (r : Records) (x : Right r) where
   unfolding held_of account_of
   filled o f c s d u z p q =
       record {
-        outcome_row_lem = z.outcome_row_lem ∙ build_ext (intervals_of r) (λ i. (entry_at (held_of r) i).outcome) (outcome_at r) outcome_is;
-        flow_row_lem = z.flow_row_lem ∙ build_ext (intervals_of r) (λ i. (entry_at (held_of r) i).flow) (flow_used_at r) flow_is;
-        content_row_lem = z.content_row_lem ∙ build_ext (intervals_of r) (λ i. (entry_at (held_of r) i).content) (content_used_at r) content_is;
+        outcome_built = z.outcome_built ∙ build_ext (intervals_of r) (λ i. (entry_at (held_of r) i).outcome) (outcome_at r) outcome_is;
+        flow_built = z.flow_built ∙ build_ext (intervals_of r) (λ i. (entry_at (held_of r) i).flow) (flow_used_at r) flow_is;
+        content_built = z.content_built ∙ build_ext (intervals_of r) (λ i. (entry_at (held_of r) i).content) (content_used_at r) content_is;
         account = λ k.
             record {
               outcomes = (ap (λ (t : Sums). t.outcomes) z.sums ∙ sums_counts) k;
@@ -387,7 +387,7 @@ low_weaken reading b c l x = record { low = λ i e. le_trans (x.low i e) l }
 -- a device's rows with these held
 abbrev pub holding : Records → List ℕ → List ℕ → Held
 holding r f c =
-    record { series = r.series; flow_held_lem = f; content_held_lem = c }
+    record { series = r.series; held_flow = f; held_content = c }
 
 -- the two series as `fill_series` leaves them: flow's with its own instrument, CH4's with its own
 pub record Filling (r : Records) (f c : List ℕ) : Type 0 where
@@ -402,8 +402,8 @@ module _ (r : Records) (x : Right r) (f c : List ℕ) (y : Filling r f c) where
   held_is k =
       record {
         series = r.series;
-        flow_held_lem = sym y.flow_filled k;
-        content_held_lem =
+        held_flow = sym y.flow_filled k;
+        held_content =
             sym (y.content_filled
             ∙ ap (λ (m : ℕ). build m (filled_at r.series.content (build m (corrected_at (instrument_of r 1) r.series.content)))) x.long.content) k;
       }
@@ -425,4 +425,4 @@ module _ (r : Records) (x : Right r) (f c : List ℕ) (y : Filling r f c) where
 -- the contract permits one result only
 pub filled_unique : (r : Records) (o f c p g d : List ℕ) (a b : Account) → Filled r o f c a → Filled r p g d b → (o ≡ p) × (f ≡ g) × (c ≡ d) × (a ≡ b)
 filled_unique r o f c p g d a b x y =
-    (x.outcome_row_lem ∙ sym y.outcome_row_lem, x.flow_row_lem ∙ sym y.flow_row_lem, x.content_row_lem ∙ sym y.content_row_lem, x.account ∙ sym y.account)
+    (x.outcome_built ∙ sym y.outcome_built, x.flow_built ∙ sym y.flow_built, x.content_built ∙ sym y.content_built, x.account ∙ sym y.account)

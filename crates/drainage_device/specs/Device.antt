@@ -1,7 +1,7 @@
 -- One device's row: from its records to its outcomes, its values used and its account. Nothing else can influence them: every
 -- definition here takes that device's records only.
 -- Assumes nothing.
-use Rattle.std.specs.Prelude.{ℕ, ◌+◌, ◌-◌, ◌*◌, ◌≤◌, ◌<◌, ◌≡◌, false, List, pos, length, get_or}
+use Rattle.std.specs.Prelude.{ℕ, ◌+◌, ◌*◌, ◌≤◌, ◌<◌, ◌≡◌, false, List, pos, length, get_or}
 use Rattle.rows.specs.Rows.{pick, either, build, sum_to, count_of, cut}
 use Rattle.protocol.specs.Ranges.{intervals_most, checks_most, mark, temp_missing, press_missing}
 use Rattle.columns.specs.Series.{Series, Checks, Long, ChecksLong, InRange}
@@ -100,11 +100,11 @@ pub record Right (r : Records) : Type 0 where
   pub long : Long r.series (intervals_of r)
   pub kept : ChecksLong r.checks 1
   pub ordered : (g : ℕ) → g < 2 → Ordered (instrument_of r g) (intervals_of r)
-  pub in_range_lem : InRange r.series (intervals_of r)
+  pub readings_in_range : InRange r.series (intervals_of r)
 
 -- the three rows and the account that the definitions build
 pub record Filled (r : Records) (outcome_row flow_row content_row : List ℕ) (a : Account) : Type 0 where
-  pub outcome_row_lem : outcome_row ≡ build (intervals_of r) (outcome_at r)
-  pub flow_row_lem : flow_row ≡ build (intervals_of r) (flow_used_at r)
-  pub content_row_lem : content_row ≡ build (intervals_of r) (content_used_at r)
+  pub outcome_built : outcome_row ≡ build (intervals_of r) (outcome_at r)
+  pub flow_built : flow_row ≡ build (intervals_of r) (flow_used_at r)
+  pub content_built : content_row ≡ build (intervals_of r) (content_used_at r)
   pub account : a ≡ account_of r

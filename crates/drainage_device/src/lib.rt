@@ -1,4 +1,6 @@
 // One device's row, in place and in linear time: drift, gaps, then one last pass.
+#![tactic(auto)]
+
 ghost use Rattle.std.specs.Prelude.{ℕ, ◌+◌, ◌*◌, ◌≤◌, ◌<◌, ◌≡◌, false, length, get_or};
 ghost use Rattle.rows.specs.Rows.{build};
 ghost use Rattle.protocol.specs.Ranges.{intervals_most, mark, flow_most};

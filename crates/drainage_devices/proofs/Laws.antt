@@ -1,6 +1,6 @@
 -- Laws of each device's part of the rows, and of its account.
 -- Assumes nothing.
-use Prim.Native.Nat.{ℕ, ◌+◌, ◌-◌, ◌*◌, ◌≤◌, ◌<◌}
+use Prim.Native.Nat.{ℕ, ◌+◌, ◌*◌, ◌≤◌, ◌<◌}
 use mathlib.Core.Path.{◌≡◌, sym, ap, ◌∙◌, subst}
 use mathlib.Core.List.{List}
 use native.Mathlib.Nat.{le_trans, add-sub_cancel_left}
@@ -147,9 +147,9 @@ module _ (l : Lent) (devices : ℕ) (x : Sound l devices) (d : ℕ) (h : d < dev
       × (length (put fs (d * l.intervals) (d * l.intervals + l.intervals) f) ≡ length fs)
       × (length (put cs (d * l.intervals) (d * l.intervals + l.intervals) c) ≡ length cs)
   rows_kept xs fs cs o f c a y p q r = (
-    put_kept xs o (outcome_at (records_of l d)) y.outcome_row_lem p,
-    put_kept fs f (flow_used_at (records_of l d)) y.flow_row_lem q,
-    put_kept cs c (content_used_at (records_of l d)) y.content_row_lem r,
+    put_kept xs o (outcome_at (records_of l d)) y.outcome_built p,
+    put_kept fs f (flow_used_at (records_of l d)) y.flow_built q,
+    put_kept cs c (content_used_at (records_of l d)) y.content_built r,
   )
 
   pub rows_written : (xs fs cs o f c : List ℕ) (a : Account) → Filled (records_of l d) o f c a
@@ -158,9 +158,9 @@ module _ (l : Lent) (devices : ℕ) (x : Sound l devices) (d : ℕ) (h : d < dev
   unfolding outcome_part flow_part content_part
   rows_written xs fs cs o f c a y =
       record {
-        outcome_row_lem = ap (put xs (d * l.intervals) (d * l.intervals + l.intervals)) (y.outcome_row_lem ∙ whole (outcome_at (records_of l d)));
-        flow_row_lem = ap (put fs (d * l.intervals) (d * l.intervals + l.intervals)) (y.flow_row_lem ∙ whole (flow_used_at (records_of l d)));
-        content_row_lem = ap (put cs (d * l.intervals) (d * l.intervals + l.intervals)) (y.content_row_lem ∙ whole (content_used_at (records_of l d)));
+        outcome_built = ap (put xs (d * l.intervals) (d * l.intervals + l.intervals)) (y.outcome_built ∙ whole (outcome_at (records_of l d)));
+        flow_built = ap (put fs (d * l.intervals) (d * l.intervals + l.intervals)) (y.flow_built ∙ whole (flow_used_at (records_of l d)));
+        content_built = ap (put cs (d * l.intervals) (d * l.intervals + l.intervals)) (y.content_built ∙ whole (content_used_at (records_of l d)));
         account = y.account;
       }
     where

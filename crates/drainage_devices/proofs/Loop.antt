@@ -67,11 +67,11 @@ module _ (l : Lent) (devices : ℕ) (before : Results) where
           sound = x.sound;
           outcomes =
               row_step l.intervals devices (outcome_part l) before.outcome now.outcome new.outcome d (λ k. (part_long l k).0) h x.outcomes
-              w.outcome_row_lem;
-          flows = row_step l.intervals devices (flow_part l) before.flow now.flow new.flow d (λ k. (part_long l k).1) h x.flows w.flow_row_lem;
+              w.outcome_built;
+          flows = row_step l.intervals devices (flow_part l) before.flow now.flow new.flow d (λ k. (part_long l k).1) h x.flows w.flow_built;
           contents =
               row_step l.intervals devices (content_part l) before.content now.content new.content d (λ k. (part_long l k).2) h x.contents
-              w.content_row_lem;
+              w.content_built;
           booked = booking_more (account_in l) ten before.accounts x.booked new.accounts t' a (few h) w.account k e;
         }
 

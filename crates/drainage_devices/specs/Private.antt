@@ -7,7 +7,7 @@ use Rattle.drainage_devices.specs.Devices.{Lent, account_in, outcome_part, flow_
 
 -- device d's part of the three rows written, the rest of them as it was, and its account
 pub record Written (l : Lent) (d : ℕ) (outcome flow content outcome' flow' content' : List ℕ) (a : Account) : Type 0 where
-  pub outcome_row_lem : outcome' ≡ put outcome (d * l.intervals) (d * l.intervals + l.intervals) (outcome_part l d)
-  pub flow_row_lem : flow' ≡ put flow (d * l.intervals) (d * l.intervals + l.intervals) (flow_part l d)
-  pub content_row_lem : content' ≡ put content (d * l.intervals) (d * l.intervals + l.intervals) (content_part l d)
+  pub outcome_built : outcome' ≡ put outcome (d * l.intervals) (d * l.intervals + l.intervals) (outcome_part l d)
+  pub flow_built : flow' ≡ put flow (d * l.intervals) (d * l.intervals + l.intervals) (flow_part l d)
+  pub content_built : content' ≡ put content (d * l.intervals) (d * l.intervals + l.intervals) (content_part l d)
   pub account : a ≡ account_in l d

@@ -1,4 +1,6 @@
 // All devices, one after the other: each device's part of the lent rows and its account are written on their own.
+#![tactic(auto)]
+
 ghost use Rattle.std.specs.Prelude.{ℕ, ◌+◌, ◌*◌, ◌≤◌, ◌<◌, ◌≡◌, length};
 ghost use Rattle.protocol.specs.Ranges.{devices_most};
 ghost use Rattle.columns.specs.Series.{series_now, checks_now, series_at, checks_at};
@@ -88,8 +90,8 @@ pub fn fill_rows(
     ensures { AllWritten
         (record { intervals = n; kinds = kinds.now; checks = checks_at counts positions drifts; series = series_at flow content temp press status })
         devices
-        (record { outcome = outcome.entry.now; flow = flow_used.old; content = content_used.old; accounts = accounts.old })
-        (record { outcome = outcome.exit.now; flow = flow_used.new; content = content_used.new; accounts = accounts.new })
+        (record { outcome = outcome.old; flow = flow_used.old; content = content_used.old; accounts = accounts.old })
+        (record { outcome = outcome.new; flow = flow_used.new; content = content_used.new; accounts = accounts.new })
         result }
 {
     let mut t = accounts::none();

@@ -1,4 +1,6 @@
 // Drift correction of one instrument's row, in time that grows with the row and the checks.
+#![tactic(auto)]
+
 ghost use Rattle.std.specs.Prelude.{ℕ, ◌≤◌, ◌<◌, ◌-◌, ◌*◌, ◌/◌, max, ◌≡◌, length, get_or};
 ghost use Rattle.rows.specs.Rows.{build, Continued};
 ghost use Rattle.drainage_drift.specs.Drift.{within, full, kept_or, corrected_at, Ordered};

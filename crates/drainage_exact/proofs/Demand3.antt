@@ -72,7 +72,7 @@ q_close u s d h =
     close_row u.intervals (u.counted d)
     (λ k. exact_methane (u.flow d k) (u.content d k) (u.temp d k) (u.press d k))
     (λ k. methane_litres (u.flow d k) (u.content d k) (u.temp d k) (u.press d k))
-    (λ k l c. interval_close (u.flow d k) (u.content d k) (u.temp d k) (u.press d k) (s.warm d k h l c) (s.content_most_lem d k h l c))
+    (λ k l c. interval_close (u.flow d k) (u.content d k) (u.temp d k) (u.press d k) (s.warm d k h l c) (s.content_within d k h l c))
 
 -- rules 10.3 and 10.4
 pub demand_3 : (u : Used) → Possible u → Fair (exact_reduction u) (reported_tonnes u) (promised (counted_all u) u.devices)

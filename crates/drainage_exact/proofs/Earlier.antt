@@ -46,7 +46,7 @@ module _ (u : Used) (s : Possible u) where
       subst (λ (n : ℕ). reported_q u d ≤ n) (sum_to_add u.intervals _ (λ k. pick (u.counted d k) 1 0))
       (sum_to_le u.intervals _ _ (λ k l.
       picked_more (u.counted d k) _ _ (λ c.
-      one_more_at_most (u.flow d k) (u.temp d k) (u.press d k) (s.warm d k h l c) (u.content d k) (s.content_most_lem d k h l c))))
+      one_more_at_most (u.flow d k) (u.temp d k) (u.press d k) (s.warm d k h l c) (u.content d k) (s.content_within d k h l c))))
 
   pub tonnes_never_lower : earlier_tonnes u ≤ℤ reported_tonnes u
   unfolding earlier_tonnes reported_tonnes

@@ -30,7 +30,7 @@ pub record Used : Type 0 where
 -- what accepted records give: a counted interval's temperature is above absolute zero and its content at most 100 %
 pub record Possible (u : Used) : Type 0 where
   pub warm : (d k : ℕ) → d < u.devices → k < u.intervals → u.counted d k ≡ true → 0 < kelvin_of (u.temp d k)
-  pub content_most_lem : (d k : ℕ) → d < u.devices → k < u.intervals → u.counted d k ≡ true → u.content d k ≤ content_most
+  pub content_within : (d k : ℕ) → d < u.devices → k < u.intervals → u.counted d k ≡ true → u.content d k ≤ content_most
 
 -- ---- exact
 

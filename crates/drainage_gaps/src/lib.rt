@@ -1,4 +1,6 @@
 // The replacement of every gap of one series, each gap found and worked out once.
+#![tactic(auto)]
+
 ghost use Rattle.std.specs.Prelude.{ℕ, ◌+◌, ◌-◌, ◌≤◌, ◌<◌, ◌≡◌, true, length};
 ghost use Rattle.rows.specs.Rows.{pick, build, every, Continued};
 ghost use Rattle.protocol.specs.Ranges.{intervals_most, flow_most};
@@ -19,20 +21,20 @@ const LONGEST_90: usize = 95;
 const LONGEST_95: usize = 672;
 
 // What is taken of the windows' values: the mean, or the lower limit for z2 in hundredths.
-#[derive(Drop)]
+#[derive(Clone, Copy)]
 pub enum Rule {
     Mean,
     Limit(u64),
 }
 
 // The entries of each window and the rule; or there is no replacement for so long a gap.
-#[derive(Drop)]
+#[derive(Clone, Copy)]
 pub enum Class {
     Of(usize, Rule),
     TooLong,
 }
 
-#[derive(Drop)]
+#[derive(Clone, Copy)]
 pub enum Replacement {
     Value(u16),
     NotWhole,

@@ -25,9 +25,9 @@ use Rattle.drainage_judge.proofs.Laws.{judged_clear}
 -- N and D are within their limits, and every slice that is read is as long as they ask
 pub record Sized (c : Call) : Type 0 where
   pub intervals_least : 1 ≤ c.intervals
-  pub intervals_most_lem : c.intervals ≤ intervals_most
+  pub intervals_within : c.intervals ≤ intervals_most
   pub devices_least : 1 ≤ c.devices
-  pub devices_most_lem : c.devices ≤ devices_most
+  pub devices_within : c.devices ≤ devices_most
   pub kinds_long : length c.kinds ≡ c.devices
   pub roomy : ChecksLong c.checks c.devices
   pub long : Long c.series (c.devices * c.intervals)
@@ -45,11 +45,11 @@ pub record Unrefused (c : Call) : Type 0 where
   pub count_most : (g : ℕ) → g < 2 * c.devices → get_or c.checks.counts g 0 ≤ checks_most
   pub position_most : (g j : ℕ) → g < 2 * c.devices → j < get_or c.checks.counts g 0
       → get_or c.checks.positions (checks_most * g + j) 0 ≤ c.intervals
-  pub drift_right_lem : (g j : ℕ) → g < 2 * c.devices → j < get_or c.checks.counts g 0
+  pub drift_in_range : (g j : ℕ) → g < 2 * c.devices → j < get_or c.checks.counts g 0
       → drift_right (get_or c.checks.drifts (checks_most * g + j) (pos 0)) ≡ true
   pub positions_rise : (g j k : ℕ) → g < 2 * c.devices → j < k → k < get_or c.checks.counts g 0
       → get_or c.checks.positions (checks_most * g + j) 0 < get_or c.checks.positions (checks_most * g + k) 0
-  pub in_range_lem : InRange c.series (c.devices * c.intervals)
+  pub readings_in_range : InRange c.series (c.devices * c.intervals)
   pub burnable : Burnable c.fuel
 
 -- ---- the shape, where the lengths are those that are asked
@@ -66,9 +66,9 @@ module _ (c : Call) (clear : Clear (lengths_step (lengths_of c))) where
       let d-right = devices_clear c.devices d in
       record {
         intervals_least = within_least _ _ n-right;
-        intervals_most_lem = within_most _ _ n-right;
+        intervals_within = within_most _ _ n-right;
         devices_least = within_least _ _ d-right;
-        devices_most_lem = within_most _ _ d-right;
+        devices_within = within_most _ _ d-right;
         kinds_long = same 0 (omega arith);
         roomy = record { counts = same 1 (omega arith); positions = same 2 (omega arith); drifts = same 3 (omega arith) };
         long =
@@ -107,7 +107,7 @@ sized_shaped c x =
       some = x.intervals_least;
       kept =
           record {
-            few = omega (arith, x.roomy.counts, x.devices_most_lem);
+            few = omega (arith, x.roomy.counts, x.devices_within);
             positions = omega (arith, x.roomy.counts, x.roomy.positions);
             drifts = omega (arith, x.roomy.drifts, x.roomy.positions);
           };
@@ -141,9 +141,9 @@ all_clear c a =
       kind_placed = λ d h. placed_clear c.mine c.kinds placed d (kind d h);
       count_most = λ g h. count_clear c.intervals c.checks checks g (instrument g h);
       position_most = λ g j h. position_clear c.intervals c.checks checks g (instrument g h) j;
-      drift_right_lem = λ g j h. drift_clear c.intervals c.checks checks g (instrument g h) j;
+      drift_in_range = λ g j h. drift_clear c.intervals c.checks checks g (instrument g h) j;
       positions_rise = λ g j k h. rise_clear c.intervals c.checks checks g (instrument g h) j k;
-      in_range_lem = subst (InRange c.series) shape.long.flow (readings_clear c.intervals c.series readings);
+      readings_in_range = subst (InRange c.series) shape.long.flow (readings_clear c.intervals c.series readings);
       burnable = fuels_clear c.fuel fuels shape.factor_long;
     }
 

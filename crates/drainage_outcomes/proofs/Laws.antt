@@ -5,15 +5,14 @@ use mathlib.Core.Path.{◌≡◌, refl, sym, ap, ◌∙◌, subst}
 use mathlib.Core.Bool.{Bool, true, false, not}
 use mathlib.Core.List.{List}
 use native.Mathlib.Omega.{arith}
-use lib.Dec.{eqb, ltb, leb}
-use lib.IntN.{ℤ, pos, negsuc}
-use lib.Signed.{lt_z}
+use lib.Dec.{eqb, ltb}
+use lib.IntN.{ℤ, pos}
 use lib.ListN.{length, get_or}
-use borrow.Author.Tests.{ltb-true, ltb-false, lt-ltb, le-ltb, leb-true, not-true}
+use borrow.Author.Tests.{ltb-true, ltb-false, lt-ltb, le-ltb}
 use Rattle.rows.specs.Rows.{pick, both, either, sum_to, count_of}
-use Rattle.rows.proofs.Laws.{both_true, length-build, get_or-build}
+use Rattle.rows.proofs.Laws.{length-build, get_or-build}
 use Rattle.rows.proofs.Sums.{sum_to_bound, sum_to_ext, counts_add}
-use Rattle.protocol.specs.Ranges.{mark, temp_missing, press_missing, temp_right, press_right, between, kelvin_of, flow_most, content_most}
+use Rattle.protocol.specs.Ranges.{mark, temp_missing, press_missing, flow_most, content_most}
 use Rattle.protocol.proofs.RangeLaws.{either_false_both, kelvin_bounds, press_bound}
 use Rattle.volume.specs.Volume.{methane_litres, Inside, litres_most}
 use Rattle.volume.proofs.Laws.{methane_litres_most, no_flow}
@@ -29,21 +28,21 @@ use Rattle.rows.proofs.Truth.{clash}
 
 -- the order of the outcomes, with each test as it came out
 abbrev ordered : Bool → Bool → Bool → Bool → Bool → Bool → ℕ → ℕ → ℕ
-ordered stopped unrecorded lacking no_flow_lem no_content running by_flow by_content =
+ordered stopped unrecorded lacking lacks_flow lacks_content running by_flow by_content =
     pick stopped 3
     (pick unrecorded 4
     (pick lacking 5
-    (pick (both no_flow_lem no_content) 6
-    (pick (both (either no_flow_lem no_content) running) 7
-    (pick no_flow_lem by_flow
-    (pick no_content by_content
+    (pick (both lacks_flow lacks_content) 6
+    (pick (both (either lacks_flow lacks_content) running) 7
+    (pick lacks_flow by_flow
+    (pick lacks_content by_content
     0))))))
 
 -- what a counted outcome says of the tests
-record Counts (lacking no_flow_lem no_content : Bool) (by_flow by_content : ℕ) : Type 0 where
+record Counts (lacking lacks_flow lacks_content : Bool) (by_flow by_content : ℕ) : Type 0 where
   has : lacking ≡ false
-  flow_found : no_flow_lem ≡ true → by_flow < 3
-  content_found : no_content ≡ true → by_content < 3
+  flow_found : lacks_flow ≡ true → by_flow < 3
+  content_found : lacks_content ≡ true → by_content < 3
 
 too_many : {X : Type 0} (k : ℕ) → 3 ≤ k → k < 3 → X
 too_many k h l = absurd (let w : ⊥ = omega arith in w)
@@ -128,14 +127,14 @@ module _ (flow content : ℕ) (temp : ℤ) (press status flow_held content_held 
       let y = counts (eqb status 0) (eqb status 3) (either (temp_missing temp) (press_missing press)) (eqb flow mark) (eqb content mark) (eqb status 1)
       (held_outcome 1 flow_held) (held_outcome 2 content_held) h in
       let m = either_false_both (temp_missing temp) (press_missing press) y.has in
-      let k = kelvin_bounds temp x.temp_right_lem m.0 in (
+      let k = kelvin_bounds temp x.temp_in_range m.0 in (
         record {
-          flow_most_lem = held_right flow flow_held flow_most 1 x.flow_held_lem y.flow_found;
+          flow_within = held_right flow flow_held flow_most 1 x.held_flow y.flow_found;
           kelvin_least = k.0;
           kelvin_most = k.1;
-          press_most = press_bound press x.press_right_lem m.1;
+          press_most = press_bound press x.press_in_range m.1;
         },
-        held_right content content_held content_most 2 x.content_held_lem y.content_found,
+        held_right content content_held content_most 2 x.held_content y.content_found,
       )
 
   -- ten outcomes
@@ -144,8 +143,8 @@ module _ (flow content : ℕ) (temp : ℤ) (press status flow_held content_held 
   outcome_few =
       few (eqb status 0) (eqb status 3) (either (temp_missing temp) (press_missing press)) (eqb flow mark) (eqb content mark) (eqb status 1)
       (held_outcome 1 flow_held) (held_outcome 2 content_held)
-      (held_few flow flow_held flow_most 1 x.flow_held_lem (omega arith))
-      (held_few content content_held content_most 2 x.content_held_lem (omega arith))
+      (held_few flow flow_held flow_most 1 x.held_flow (omega arith))
+      (held_few content content_held content_most 2 x.held_content (omega arith))
 
   pub entry_few : (entry_of flow content temp press status flow_held content_held).outcome < 10
   unfolding entry_of
@@ -192,14 +191,14 @@ unfolding entry_at
 outcome_of_ten h n x i l =
     entry_few (get_or h.series.flow i mark) (get_or h.series.content i mark) (get_or h.series.temp i (pos 0)) (get_or h.series.press i 0)
     (get_or h.series.status i 0)
-    (get_or h.flow_held_lem i mark) (get_or h.content_held_lem i mark) (x.ready i l)
+    (get_or h.held_flow i mark) (get_or h.held_content i mark) (x.ready i l)
 
 pub litres_of_entry : (h : Held) (n : ℕ) → ReadyAt h n → (i : ℕ) → i < n → (entry_at h i).litres ≤ litres_most
 unfolding entry_at
 litres_of_entry h n x i l =
     entry_litres (get_or h.series.flow i mark) (get_or h.series.content i mark) (get_or h.series.temp i (pos 0)) (get_or h.series.press i 0)
     (get_or h.series.status i 0)
-    (get_or h.flow_held_lem i mark) (get_or h.content_held_lem i mark) (x.ready i l)
+    (get_or h.held_flow i mark) (get_or h.held_content i mark) (x.ready i l)
 
 -- the methane of the first i intervals
 pub methane_to : (h : Held) (n : ℕ) → ReadyAt h n → (i : ℕ) → i ≤ n → sum_to i (λ k. (entry_at h k).litres) ≤ i * litres_most
@@ -235,7 +234,7 @@ pub counted_used : (h : Held) (n : ℕ) → ReadyAt h n → (i : ℕ) → i < n 
 unfolding entry_at entry_of
 counted_used h n x i l e =
     let y = counted_inside (get_or h.series.flow i mark) (get_or h.series.content i mark) (get_or h.series.temp i (pos 0)) (get_or h.series.press i 0)
-    (get_or h.series.status i 0) (get_or h.flow_held_lem i mark) (get_or h.content_held_lem i mark) (x.ready i l) (ltb-true (entry_at h i).outcome 3 e) in
+    (get_or h.series.status i 0) (get_or h.held_flow i mark) (get_or h.held_content i mark) (x.ready i l) (ltb-true (entry_at h i).outcome 3 e) in
     simp e y
 
 -- an excluded interval's used values are 0
@@ -250,9 +249,9 @@ pub litres_of_used : (h : Held) (i : ℕ) → (entry_at h i).litres ≡ methane_
 unfolding entry_at entry_of litres_for
 litres_of_used h i = go (counted (entry_at h i).outcome)
   where
-    go : (t : Bool) → pick t (methane_litres (get_or h.flow_held_lem i mark) (get_or h.content_held_lem i mark) (get_or h.series.temp i (pos 0))
+    go : (t : Bool) → pick t (methane_litres (get_or h.held_flow i mark) (get_or h.held_content i mark) (get_or h.series.temp i (pos 0))
         (get_or h.series.press i 0)) 0
-        ≡ methane_litres (pick t (get_or h.flow_held_lem i mark) 0) (pick t (get_or h.content_held_lem i mark) 0) (get_or h.series.temp i (pos 0))
+        ≡ methane_litres (pick t (get_or h.held_flow i mark) 0) (pick t (get_or h.held_content i mark) 0) (get_or h.series.temp i (pos 0))
         (get_or h.series.press i 0)
     go true = refl
     go false = sym (no_flow 0 (get_or h.series.temp i (pos 0)) (get_or h.series.press i 0))
@@ -261,8 +260,8 @@ litres_of_used h i = go (counted (entry_at h i).outcome)
 pub finished_unique : (h : Held) (o f c p g d : List ℕ) (s t : Sums) → Finished h o f c s → Finished h p g d t
     → (o ≡ p) × (f ≡ g) × (c ≡ d) × (s ≡ t)
 finished_unique h o f c p g d s t x y = (
-  x.outcome_row_lem ∙ sym y.outcome_row_lem,
-  x.flow_row_lem ∙ sym y.flow_row_lem,
-  x.content_row_lem ∙ sym y.content_row_lem,
+  x.outcome_built ∙ sym y.outcome_built,
+  x.flow_built ∙ sym y.flow_built,
+  x.content_built ∙ sym y.content_built,
   x.sums ∙ sym y.sums,
 )

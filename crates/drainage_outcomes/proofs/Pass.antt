@@ -1,21 +1,18 @@
 -- The last pass as a loop's invariant: the rows and sums after the first i intervals. Start, step and end.
 -- Assumes nothing.
-use Prim.Native.Nat.{ℕ, zero, suc, ◌+◌, ◌-◌, ◌*◌, ◌≤◌, ◌<◌}
-use mathlib.Core.Path.{◌≡◌, refl, sym, ap, ap₂, ◌∙◌, subst}
-use mathlib.Core.Bool.{Bool, true, false}
+use Prim.Native.Nat.{ℕ, suc, ◌+◌, ◌-◌, ◌*◌, ◌≤◌, ◌<◌}
+use mathlib.Core.Path.{◌≡◌, refl, sym, ap, ◌∙◌, subst}
+use mathlib.Core.Bool.{Bool, true}
 use mathlib.Core.List.{List, ◌++◌}
 use native.Mathlib.Nat.{le_antisymm}
-use native.Mathlib.Numerals.{add-one}
 use native.Mathlib.Omega.{arith}
-use borrow.Author.Tests.{eqb-true, eqb-false}
-use lib.Dec.{eqb}
 use mir.Syntax.{w64}
 use mir.Val.{Fits}
 use lib.IntN.{ℤ, pos}
-use lib.ListN.{length, get_or, drop, set, length-set, length-append, length-drop, replicate}
-use lib.Seq.{drop-cons, get_or_at, get_or-set_same, get_or-set_other, set-get_or, ext_get_or}
-use Rattle.rows.specs.Rows.{pick, build, sum_to, count_of, hit}
-use Rattle.rows.proofs.Laws.{build_step, build_done, length-build, get_or-build, get_or_inside}
+use lib.ListN.{length, get_or, drop, set, length-set, length-append, length-drop}
+use lib.Seq.{drop-cons, get_or_at, set-get_or, ext_get_or}
+use Rattle.rows.specs.Rows.{build, sum_to, count_of}
+use Rattle.rows.proofs.Laws.{build_done, length-build, get_or-build, get_or_inside}
 use Rattle.rows.proofs.Sums.{count_most}
 use Rattle.rows.proofs.More.{row_more, sum_more, count_more}
 use Rattle.protocol.specs.Ranges.{mark, ppm_most}
@@ -31,9 +28,9 @@ pub record Going (h : Held) (n : ℕ) (old o f c counts : List ℕ) (methane i :
   pub ready : ReadyAt h n
   pub old_length : length old ≡ n
   pub within : i ≤ n
-  pub outcome_row_lem : o ≡ build i (λ k. (entry_at h k).outcome) ++ drop i old
-  pub flow_row_lem : f ≡ build i (λ k. (entry_at h k).flow) ++ drop i h.flow_held_lem
-  pub content_row_lem : c ≡ build i (λ k. (entry_at h k).content) ++ drop i h.content_held_lem
+  pub outcome_built : o ≡ build i (λ k. (entry_at h k).outcome) ++ drop i old
+  pub flow_built : f ≡ build i (λ k. (entry_at h k).flow) ++ drop i h.held_flow
+  pub content_built : c ≡ build i (λ k. (entry_at h k).content) ++ drop i h.held_content
   pub ten : length counts ≡ 10
   pub each : (j : ℕ) → j < 10 → get_or counts j 0 ≡ count_of i (λ k. (entry_at h k).outcome) j
   pub sum : methane ≡ sum_to i (λ k. (entry_at h k).litres)
@@ -54,15 +51,15 @@ module _ {h : Held} {n : ℕ} {old o f c counts : List ℕ} {methane i : ℕ} (x
   at_content : get_or h.series.content i 0 ≡ get_or h.series.content i mark
   at_content = get_or_inside h.series.content i 0 mark (let z : length h.series.content ≡ n = x.ready.long.content in omega arith)
 
-  at_flow_held : get_or f i 0 ≡ get_or h.flow_held_lem i mark
+  at_flow_held : get_or f i 0 ≡ get_or h.held_flow i mark
   at_flow_held =
-      unwritten i (λ k. (entry_at h k).flow) h.flow_held_lem f x.flow_row_lem
-      (let z : length h.flow_held_lem ≡ n = x.ready.flow_rows in omega arith)
+      unwritten i (λ k. (entry_at h k).flow) h.held_flow f x.flow_built
+      (let z : length h.held_flow ≡ n = x.ready.flow_rows in omega arith)
 
-  at_content_held : get_or c i 0 ≡ get_or h.content_held_lem i mark
+  at_content_held : get_or c i 0 ≡ get_or h.held_content i mark
   at_content_held =
-      unwritten i (λ k. (entry_at h k).content) h.content_held_lem c x.content_row_lem
-      (let z : length h.content_held_lem ≡ n = x.ready.content_rows in omega arith)
+      unwritten i (λ k. (entry_at h k).content) h.held_content c x.content_built
+      (let z : length h.held_content ≡ n = x.ready.content_rows in omega arith)
 
   -- what is read there, the temperature as the code has it, is ready
   pub reads_ready : (t : ℤ) → t ≡ get_or h.series.temp i (pos 0) → Ready (get_or h.series.flow i 0) (get_or h.series.content i 0) t
@@ -105,15 +102,15 @@ module _ {h : Held} {n : ℕ} {old o f c counts : List ℕ} {methane i : ℕ} (x
 -- ---- start, step and end
 
 pub going_none : (h : Held) (n : ℕ) (old counts : List ℕ) → ReadyAt h n → length old ≡ n → length counts ≡ 10
-    → ((j : ℕ) → j < 10 → get_or counts j 0 ≡ 0) → Going h n old old h.flow_held_lem h.content_held_lem counts 0 0
+    → ((j : ℕ) → j < 10 → get_or counts j 0 ≡ 0) → Going h n old old h.held_flow h.held_content counts 0 0
 going_none h n old counts x e t z =
     record {
       ready = x;
       old_length = e;
       within = omega arith;
-      outcome_row_lem = refl;
-      flow_row_lem = refl;
-      content_row_lem = refl;
+      outcome_built = refl;
+      flow_built = refl;
+      content_built = refl;
       ten = t;
       each = z;
       sum = refl;
@@ -135,15 +132,15 @@ module _ {h : Held} {n : ℕ} {old o f c counts : List ℕ} {methane i : ℕ} (x
         ready = x.ready;
         old_length = x.old_length;
         within = omega arith;
-        outcome_row_lem =
-            row_more i (λ k. (entry_at h k).outcome) old o e.outcome x.outcome_row_lem (let z : length old ≡ n = x.old_length in omega arith)
+        outcome_built =
+            row_more i (λ k. (entry_at h k).outcome) old o e.outcome x.outcome_built (let z : length old ≡ n = x.old_length in omega arith)
             (ap (λ (y : Entry). y.outcome) q);
-        flow_row_lem =
-            row_more i (λ k. (entry_at h k).flow) h.flow_held_lem f e.flow x.flow_row_lem
-            (let z : length h.flow_held_lem ≡ n = x.ready.flow_rows in omega arith) (ap (λ (y : Entry). y.flow) q);
-        content_row_lem =
-            row_more i (λ k. (entry_at h k).content) h.content_held_lem c e.content x.content_row_lem
-            (let z : length h.content_held_lem ≡ n = x.ready.content_rows in omega arith) (ap (λ (y : Entry). y.content) q);
+        flow_built =
+            row_more i (λ k. (entry_at h k).flow) h.held_flow f e.flow x.flow_built
+            (let z : length h.held_flow ≡ n = x.ready.flow_rows in omega arith) (ap (λ (y : Entry). y.flow) q);
+        content_built =
+            row_more i (λ k. (entry_at h k).content) h.held_content c e.content x.content_built
+            (let z : length h.held_content ≡ n = x.ready.content_rows in omega arith) (ap (λ (y : Entry). y.content) q);
         ten = length-set counts e.outcome (get_or counts e.outcome 0 + 1) ∙ x.ten;
         each =
             λ j z. count_more i (λ k. (entry_at h k).outcome) counts e.outcome j (ap (λ (y : Entry). y.outcome) q)
@@ -183,9 +180,9 @@ module _ {h : Held} {n : ℕ} {old o f c counts : List ℕ} {methane i : ℕ} (x
 
   pub length_rows : (length o ≡ n) × (length f ≡ n) × (length c ≡ n)
   length_rows = (
-    ap length x.outcome_row_lem ∙ built old (λ k. (entry_at h k).outcome) x.old_length,
-    ap length x.flow_row_lem ∙ built h.flow_held_lem (λ k. (entry_at h k).flow) x.ready.flow_rows,
-    ap length x.content_row_lem ∙ built h.content_held_lem (λ k. (entry_at h k).content) x.ready.content_rows,
+    ap length x.outcome_built ∙ built old (λ k. (entry_at h k).outcome) x.old_length,
+    ap length x.flow_built ∙ built h.held_flow (λ k. (entry_at h k).flow) x.ready.flow_rows,
+    ap length x.content_built ∙ built h.held_content (λ k. (entry_at h k).content) x.ready.content_rows,
   )
     where
       built : (base : List ℕ) (g : ℕ → ℕ) → length base ≡ n → length (build i g ++ drop i base) ≡ n
@@ -197,9 +194,9 @@ module _ {h : Held} {n : ℕ} {old o f c counts : List ℕ} {methane i : ℕ} (x
       let size : length h.series.flow ≡ n = x.ready.long.flow in
       let at : i ≡ length h.series.flow = le_antisymm (let w : i ≤ n = x.within in omega arith) (omega arith) in
       record {
-        outcome_row_lem = done old (λ k. (entry_at h k).outcome) o at x.outcome_row_lem (x.old_length ∙ sym size);
-        flow_row_lem = done h.flow_held_lem (λ k. (entry_at h k).flow) f at x.flow_row_lem (x.ready.flow_rows ∙ sym size);
-        content_row_lem = done h.content_held_lem (λ k. (entry_at h k).content) c at x.content_row_lem (x.ready.content_rows ∙ sym size);
+        outcome_built = done old (λ k. (entry_at h k).outcome) o at x.outcome_built (x.old_length ∙ sym size);
+        flow_built = done h.held_flow (λ k. (entry_at h k).flow) f at x.flow_built (x.ready.flow_rows ∙ sym size);
+        content_built = done h.held_content (λ k. (entry_at h k).content) c at x.content_built (x.ready.content_rows ∙ sym size);
         sums = λ t. record { outcomes = tens at t; methane = (x.sum ∙ ap (λ (m : ℕ). sum_to m (λ k. (entry_at h k).litres)) at) t };
       }
     where

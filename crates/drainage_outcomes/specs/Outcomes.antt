@@ -14,14 +14,14 @@ use Rattle.drainage_outcomes.specs.declared.Sums.{Sums}
 -- Rule 8.1: the first line that applies, from top to bottom. `lacking` is that temperature or pressure is missing. `by_flow` is what a
 -- missing flow comes to: 1 where it is replaced, or too_long or not_whole; `by_content` what a missing CH4 content does, 2 or these.
 unfoldable pub outcome_of : ℕ → Bool → Bool → Bool → ℕ → ℕ → ℕ
-outcome_of status lacking no_flow_lem no_content by_flow by_content =
+outcome_of status lacking lacks_flow lacks_content by_flow by_content =
     pick (eqb status 0) 3
     (pick (eqb status 3) 4
     (pick lacking 5
-    (pick (both no_flow_lem no_content) 6
-    (pick (both (either no_flow_lem no_content) (eqb status 1)) 7
-    (pick no_flow_lem by_flow
-    (pick no_content by_content
+    (pick (both lacks_flow lacks_content) 6
+    (pick (both (either lacks_flow lacks_content) (eqb status 1)) 7
+    (pick lacks_flow by_flow
+    (pick lacks_content by_content
     0))))))
 
 -- the device ran, and nothing is missing: outcome 0
@@ -43,8 +43,8 @@ litres_for outcome flow content temp press = pick (counted outcome) (methane_lit
 -- one device's rows when gaps are filled: the five series as recorded, and what each interval holds for flow and content
 pub record Held : Type 0 where
   pub series : Series
-  pub flow_held_lem : List ℕ
-  pub content_held_lem : List ℕ
+  pub held_flow : List ℕ
+  pub held_content : List ℕ
 
 -- what a missing reading comes to, by what its gap's entries hold: its replacement's outcome, or the one that excludes it
 abbrev pub held_outcome : ℕ → ℕ → ℕ
@@ -62,7 +62,7 @@ unfoldable pub entry_at : Held → ℕ → Entry
 entry_at h i =
     entry_of (get_or h.series.flow i mark) (get_or h.series.content i mark) (get_or h.series.temp i (pos 0)) (get_or h.series.press i 0)
     (get_or h.series.status i 0)
-    (get_or h.flow_held_lem i mark) (get_or h.content_held_lem i mark)
+    (get_or h.held_flow i mark) (get_or h.held_content i mark)
 
 -- rule 8.6: how many intervals have each outcome, beside the sum of their litres
 unfoldable pub sums_of : ℕ → (ℕ → Entry) → Sums
@@ -78,24 +78,24 @@ pub record Holds (reading held b : ℕ) : Type 0 where
 
 -- what an interval's entry is worked out from
 pub record Ready (flow content : ℕ) (temp : ℤ) (press flow_held content_held : ℕ) : Type 0 where
-  pub flow_held_lem : Holds flow flow_held flow_most
-  pub content_held_lem : Holds content content_held content_most
-  pub temp_right_lem : temp_right temp ≡ true
-  pub press_right_lem : press_right press ≡ true
+  pub held_flow : Holds flow flow_held flow_most
+  pub held_content : Holds content content_held content_most
+  pub temp_in_range : temp_right temp ≡ true
+  pub press_in_range : press_right press ≡ true
 
 pub record ReadyAt (h : Held) (n : ℕ) : Type 0 where
   pub few : n ≤ intervals_most
   pub long : Long h.series n
-  pub flow_rows : length h.flow_held_lem ≡ n
-  pub content_rows : length h.content_held_lem ≡ n
+  pub flow_rows : length h.held_flow ≡ n
+  pub content_rows : length h.held_content ≡ n
   pub ready : (i : ℕ) → i < n → Ready (get_or h.series.flow i mark) (get_or h.series.content i mark) (get_or h.series.temp i (pos 0))
-      (get_or h.series.press i 0) (get_or h.flow_held_lem i mark) (get_or h.content_held_lem i mark)
+      (get_or h.series.press i 0) (get_or h.held_flow i mark) (get_or h.held_content i mark)
 
 -- the three rows and the sums after the last pass
 pub record Finished (h : Held) (outcome_row flow_row content_row : List ℕ) (given : Sums) : Type 0 where
-  pub outcome_row_lem : outcome_row ≡ build (length h.series.flow) (λ i. (entry_at h i).outcome)
-  pub flow_row_lem : flow_row ≡ build (length h.series.flow) (λ i. (entry_at h i).flow)
-  pub content_row_lem : content_row ≡ build (length h.series.flow) (λ i. (entry_at h i).content)
+  pub outcome_built : outcome_row ≡ build (length h.series.flow) (λ i. (entry_at h i).outcome)
+  pub flow_built : flow_row ≡ build (length h.series.flow) (λ i. (entry_at h i).flow)
+  pub content_built : content_row ≡ build (length h.series.flow) (λ i. (entry_at h i).content)
   pub sums : given ≡ sums_of (length h.series.flow) (entry_at h)
 
 -- the order decides: stopped before everything, no record of status before a missing temperature, and so on

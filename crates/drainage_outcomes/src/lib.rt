@@ -1,4 +1,6 @@
 // The last pass over one device's row: outcomes, values used, counts and methane litres.
+#![tactic(auto)]
+
 ghost use Rattle.std.specs.Prelude.{ℕ, ◌≤◌, ◌<◌, ◌≡◌, eqb, length};
 ghost use Rattle.rows.specs.Rows.{pick, either};
 ghost use Rattle.protocol.specs.Ranges.{temp_missing, press_missing};
@@ -21,7 +23,7 @@ use drainage_runs::EXCLUDING;
 use protocol::MISSING;
 
 // One interval as recorded.
-#[derive(Drop)]
+#[derive(Clone, Copy)]
 pub struct Readings {
     pub flow: u16,
     pub content: u16,
@@ -30,7 +32,7 @@ pub struct Readings {
     pub status: u8,
 }
 
-#[derive(Drop)]
+#[derive(Clone, Copy)]
 pub struct Entry {
     pub outcome: u8,
     pub flow: u16,
@@ -38,7 +40,7 @@ pub struct Entry {
     pub litres: u64,
 }
 
-#[derive(Drop)]
+#[derive(Clone, Copy)]
 pub struct Sums {
     pub outcomes: [u64; OUTCOMES],
     pub methane: u64,
@@ -173,11 +175,11 @@ pub fn finish(
     content_used: &mut [u16],
 ) -> Sums
     requires { ReadyAt
-        (record { series = series_now flow content temp press status; flow_held_lem = flow_used.old; content_held_lem = content_used.old })
+        (record { series = series_now flow content temp press status; held_flow = flow_used.old; held_content = content_used.old })
         (length flow.now)
         × (length outcome.old ≡ length flow.now) }
     ensures { Finished
-        (record { series = series_at flow content temp press status; flow_held_lem = flow_used.old; content_held_lem = content_used.old })
+        (record { series = series_at flow content temp press status; held_flow = flow_used.old; held_content = content_used.old })
         outcome.new flow_used.new content_used.new result }
 {
     let n = flow.len();

@@ -1,4 +1,6 @@
 // Gaps of one series: where a run of missing readings ends, and whether its two windows are whole.
+#![tactic(auto)]
+
 ghost use Rattle.std.specs.Prelude.{ℕ, ◌+◌, ◌≤◌, ◌<◌, ◌≡◌, length};
 ghost use Rattle.rows.specs.Rows.{every};
 ghost use Rattle.drainage_runs.specs.Runs.{measured_at, gap_end, whole};

@@ -1,4 +1,6 @@
 // Window statistics, proved once over n and z2. Callers cite the names of specs/Window.antt and the laws of proofs/Laws.antt.
+#![tactic(auto)]
+
 ghost use Rattle.std.specs.Prelude.{◌≤◌, ◌≡◌, ◌++◌, length};
 ghost use Rattle.protocol.specs.Ranges.{flow_most};
 ghost use Rattle.drainage_window.specs.Window.{tally_of, mean_of, meets, limit_of, mean_width, width95, z95};
@@ -19,7 +21,7 @@ pub const Z90: u64 = 271;
 
 pub const Z95: u64 = 385;
 
-#[derive(Drop)]
+#[derive(Clone, Copy)]
 pub struct Tally {
     pub n: u64,
     pub sum: u64,

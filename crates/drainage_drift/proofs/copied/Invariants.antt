@@ -1,0 +1,15 @@
+-- `drift::copied` meets its contract. The loop's invariant: the row is written from start up to i, one store a turn.
+-- Assumes nothing.
+use Prim.Native.Nat.{◌-◌, ◌≤◌}
+use mathlib.Core.Path.{◌≡◌}
+use lib.ListN.{length}
+use Rattle.rows.specs.Rows.{Continued}
+use Rattle.drainage_drift.specs.Drift.{kept_or}
+use Rattle.drainage_drift.proofs.copied.Given as goal
+
+abbrev pub invariant-loop-i : goal.invariant-loop-i
+invariant-loop-i l = (l.start ≤ l.i) × (l.i ≤ l.end) × (l.end ≤ length l.reading) × (length l.initial.used ≡ length l.reading) × (length l.used ≡ length l.reading)
+    × Continued l.start l.i (kept_or 0 l.reading) l.initial.used l.used
+
+abbrev pub decreases-loop-i : goal.decreases-loop-i
+decreases-loop-i l = l.end - l.i
