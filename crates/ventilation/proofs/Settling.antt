@@ -44,7 +44,7 @@ use Rattle.ventilation.specs.Promise.{answer_by, results_by, used_in, Settled}
 -- what a clean verdict gives the devices' rows
 pub sound : (c : Call) → Unrefused c → Sound (lent_in c) c.devices
 sound c x =
-    record { few = x.shape.intervals_most_lem; few_devices = x.shape.devices_most_lem; long = x.shape.long; right = x.right }
+    record { few = x.shape.intervals_within; few_devices = x.shape.devices_within; long = x.shape.long; right = x.right }
 
 module _ (c : Call) (before : Results) (x : Unrefused c) where
   abbrev after : Results
@@ -72,7 +72,7 @@ module _ (c : Call) (before : Results) (x : Unrefused c) where
         (ap gas_missing (sym inlet_here) ∙ z.0, ap gas_missing (sym exhaust_here) ∙ z.1)
 
   possible_gas : (g : Gas) → gas_right g ≡ true → gas_missing g ≡ false → Possible g
-  possible_gas g r m = let i = gas_inside g r m in record { warm = omega (arith, i.0.kelvin_least); ppm_most_lem = i.1 }
+  possible_gas g r m = let i = gas_inside g r m in record { warm = omega (arith, i.0.kelvin_least); ppm_within = i.1 }
 
   cell : (d k : ℕ) → d < c.devices → k < c.intervals → d * c.intervals + k < c.devices * c.intervals
   cell d k h l = let w : d * c.intervals + c.intervals ≤ c.devices * c.intervals = room c.intervals d c.devices h in omega arith
@@ -199,7 +199,7 @@ pub moderate_call : (c : Call) → Unrefused c → (t : Totals) (fuel : ℕ) →
     → Moderate t.baseline_mg (t.co2_mg + t.uncombusted_mg + fuel)
 moderate_call c x t fuel e l =
     subst (λ (s : Totals). Moderate s.baseline_mg (s.co2_mg + s.uncombusted_mg + fuel)) (sym e)
-    (moderate c.devices (account_in (lent_in c)) x.shape.devices_most_lem (modest (lent_in c) c.devices (sound c x)) fuel l)
+    (moderate c.devices (account_in (lent_in c)) x.shape.devices_within (modest (lent_in c) c.devices (sound c x)) fuel l)
 
 -- the sheet of the totals and the fuel is the call's
 pub sheet_is : (c : Call) (t : Totals) (fuel : ℕ) (f : Figures) → f ≡ figures_from c.intervals c.devices t fuel

@@ -1,6 +1,6 @@
 -- What the quantification of ventilation air promises of every call: the customer's three demands.
 -- Assumes nothing.
-use Rattle.std.specs.Prelude.{ℕ, ◌+◌, ◌*◌, ◌≡◌, length, get_or}
+use Rattle.std.specs.Prelude.{◌+◌, ◌*◌, ◌≡◌, length, get_or}
 use Rattle.refusals.specs.declared.Verdict.{Verdict}
 use Rattle.refusals.specs.declared.Verdict.TheVariants.{Clean, Refused as Offended}
 use Rattle.columns.specs.Streams.{gas_at}

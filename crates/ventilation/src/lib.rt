@@ -1,4 +1,6 @@
 // Ventilation air: the public call over all oxidisers. Its contract, `Settled` of specs/Promise.antt, states the three demands.
+#![tactic(auto)]
+
 ghost use Rattle.std.specs.Prelude.{length};
 ghost use Rattle.columns.specs.Series.{fuel_at};
 ghost use Rattle.columns.specs.Streams.{air_of, stream_at};
@@ -35,10 +37,10 @@ pub fn quantify(
               air_of (stream_at inlet_flow inlet_ppm inlet_temp inlet_press)
               (stream_at exhaust_flow exhaust_ppm exhaust_temp exhaust_press) status.now;
           fuel = fuel_at quantity factor;
-          outcome_length = length outcome.entry.now;
+          outcome_length = length outcome.old;
         })
-        (record { outcome = outcome.entry.now; accounts = accounts.old })
-        (record { outcome = outcome.exit.now; accounts = accounts.new })
+        (record { outcome = outcome.old; accounts = accounts.old })
+        (record { outcome = outcome.new; accounts = accounts.new })
         result }
 {
     let outcomes = outcome.len();

@@ -1,6 +1,6 @@
 -- Small calls of one oxidiser, to compute the definitions on.
 -- Assumes nothing.
-use Rattle.std.specs.Prelude.{ℕ, List, [], ◌∷◌, ℤ, pos, negsuc, length}
+use Rattle.std.specs.Prelude.{ℕ, List, [], ◌∷◌, pos, negsuc, length}
 use Rattle.columns.specs.Series.{fuel_of}
 use Rattle.columns.specs.Streams.{Gas, gas_of, Stream, air_of}
 use Rattle.ventilation_judge.specs.Call.{Call}

@@ -1,11 +1,10 @@
 -- Whole calls: the row, the account and the sheet.
 -- Assumes nothing.
-use Rattle.std.specs.Prelude.{ℕ, ◌≡◌, refl, List, [], ◌∷◌, ◌++◌, pos, negsuc, replicate}
+use Rattle.std.specs.Prelude.{◌≡◌, refl, List, [], ◌∷◌, ◌++◌, pos, negsuc, replicate}
 use Rattle.refusals.specs.declared.Verdict.TheVariants.{Clean}
 use Rattle.protocol.specs.Ranges.{mark}
 use Rattle.volume.specs.Volume.{correction_down, correction_up, hundredths_of, methane_litres_in, methane_litres, methane_litres_up_in, methane_litres_up}
 use Rattle.balance.specs.Balance.{baseline_in_mg, carbon_dioxide_mg, uncombusted_in_mg, fuel_in_mg, reduction_of, tonnes_of, credits_of}
-use Rattle.figures.specs.declared.Figures.{Figures}
 use Rattle.steps.specs.Step.{verdict_of}
 use Rattle.steps.specs.Wrong.{wrong_fuel}
 use Rattle.steps.specs.Steps.{intervals_step, devices_step, lengths_step, fuels_step}

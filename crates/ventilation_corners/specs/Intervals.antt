@@ -2,7 +2,7 @@
 -- Assumes nothing.
 use Rattle.std.specs.Prelude.{ℕ, ◌≡◌, refl, pos, negsuc}
 use Rattle.protocol.specs.Ranges.{mark}
-use Rattle.columns.specs.Streams.{Gas, gas_of}
+use Rattle.columns.specs.Streams.{gas_of}
 use Rattle.volume.specs.Volume.{correction_down, correction_up, hundredths_of, methane_litres_in, methane_litres, methane_litres_up_in, methane_litres_up}
 use Rattle.ventilation_device.specs.declared.Entry.{Entry}
 use Rattle.ventilation_device.specs.Outcomes.{inlet_litres, exhaust_litres, outcome_of, entry_of}

@@ -1,7 +1,7 @@
 -- Laws of one interval: which entry each of the code's tests leaves, and what an entry is bounded by.
 -- Assumes nothing.
-use Prim.Native.Nat.{ℕ, ◌+◌, ◌≤◌, ◌<◌}
-use mathlib.Core.Path.{◌≡◌, refl, sym, ap, ◌∙◌, subst}
+use Prim.Native.Nat.{ℕ, ◌≤◌, ◌<◌}
+use mathlib.Core.Path.{◌≡◌, refl, sym, ap, ◌∙◌}
 use mathlib.Core.Bool.{Bool, true, false}
 use native.Mathlib.Omega.{arith}
 use lib.Dec.{eqb, ltb}
@@ -15,7 +15,6 @@ use Rattle.columns.specs.Streams.{Gas, gas_right, gas_missing}
 use Rattle.volume.specs.Volume.{Inside, air_most}
 use Rattle.volume.proofs.Laws.{air_litres_most}
 use Rattle.accounts.specs.Account.{counted}
-use Rattle.ventilation_device.specs.declared.Entry.{Entry}
 use Rattle.ventilation_device.specs.Outcomes.{inlet_litres, exhaust_litres, outcome_of, entry_of}
 
 -- readings that are right and not missing are those that the volume asks for
@@ -29,7 +28,7 @@ gas_inside g r m =
     let m3 = either_false_both (temp_missing g.temp) (press_missing g.press) m2.1 in
     let kelvin = kelvin_bounds g.temp r3.0 m3.0 in (
       record {
-        flow_most_lem = value_bound g.flow flow_most r1.0 m1.0;
+        flow_within = value_bound g.flow flow_most r1.0 m1.0;
         kelvin_least = kelvin.0;
         kelvin_most = kelvin.1;
         press_most = press_bound g.press r3.1 m3.1;

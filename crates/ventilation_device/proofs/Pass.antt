@@ -14,10 +14,9 @@ use Rattle.rows.specs.Rows.{build, sum_to, count_of}
 use Rattle.rows.proofs.Laws.{build_done, length-build, get_or-build}
 use Rattle.rows.proofs.Sums.{sum_to_le, sum_to_bound, count_most}
 use Rattle.rows.proofs.More.{row_more, sum_more, count_more}
-use Rattle.columns.specs.Streams.{Air, Gas, gas_at, gas_right, AirWithin}
+use Rattle.columns.specs.Streams.{Air, gas_at, gas_right, AirWithin}
 use Rattle.columns.proofs.StreamLaws.{air_within}
 use Rattle.volume.specs.Volume.{air_most}
-use Rattle.accounts.specs.declared.Account.{Account}
 use Rattle.accounts.specs.Account.{outcome_kinds}
 use Rattle.ventilation_device.specs.declared.Entry.{Entry}
 use Rattle.ventilation_device.specs.Outcomes.{entry_of}
@@ -49,7 +48,7 @@ pub record Going (a : Air) (n : ℕ) (old o counts : List ℕ) (supplied left i 
   pub whole : n ≡ intervals_of a
   pub old_length : length old ≡ intervals_of a
   pub within : i ≤ intervals_of a
-  pub outcome_row_lem : o ≡ build i (outcome_at a) ++ drop i old
+  pub outcome_built : o ≡ build i (outcome_at a) ++ drop i old
   pub ten : length counts ≡ 10
   pub each : (j : ℕ) → j < 10 → get_or counts j 0 ≡ count_of i (outcome_at a) j
   pub inlet : supplied ≡ sum_to i (λ k. (entry_at a k).inlet)
@@ -63,7 +62,7 @@ going_none a n old counts x w e t z =
       whole = w;
       old_length = e;
       within = omega arith;
-      outcome_row_lem = refl;
+      outcome_built = refl;
       ten = t;
       each = z;
       inlet = refl;
@@ -144,7 +143,7 @@ module _ {a : Air} {n : ℕ} {old o counts : List ℕ} {supplied left i : ℕ} (
           whole = x.whole;
           old_length = x.old_length;
           within = let z = inside l in omega arith;
-          outcome_row_lem = row_more i (outcome_at a) old o e.outcome x.outcome_row_lem (omega (arith, x.old_length, inside l)) outcome_is;
+          outcome_built = row_more i (outcome_at a) old o e.outcome x.outcome_built (omega (arith, x.old_length, inside l)) outcome_is;
           ten = length-set counts e.outcome (get_or counts e.outcome 0 + 1) ∙ x.ten;
           each =
               λ j z. count_more i (outcome_at a) counts e.outcome j outcome_is (subst (λ (m : ℕ). e.outcome < m) (sym x.ten) going_few) (x.each j z);
@@ -155,7 +154,7 @@ module _ {a : Air} {n : ℕ} {old o counts : List ℕ} {supplied left i : ℕ} (
   -- ---- places, and the end
 
   pub length_row : length o ≡ length old
-  length_row = ap length x.outcome_row_lem ∙ built
+  length_row = ap length x.outcome_built ∙ built
     where
       built : length (build i (outcome_at a) ++ drop i old) ≡ length old
       built = let w : i ≤ length old = omega (arith, x.within, x.old_length) in simp (length-append, length-build, length-drop) (omega arith)
@@ -183,8 +182,8 @@ module _ {a : Air} {n : ℕ} {old o counts : List ℕ} {supplied left i : ℕ} (
       let p : supplied ≡ inlet_of a = x.inlet ∙ ap (λ (m : ℕ). sum_to m (λ k. (entry_at a k).inlet)) at in
       let q : left ≡ exhaust_of a = x.exhaust ∙ ap (λ (m : ℕ). sum_to m (λ k. (entry_at a k).exhaust)) at in
       record {
-        outcome_row_lem =
-            x.outcome_row_lem ∙ ap (λ (m : ℕ). build m (outcome_at a) ++ drop m old) at ∙ build_done (intervals_of a) (outcome_at a) old x.old_length;
+        outcome_built =
+            x.outcome_built ∙ ap (λ (m : ℕ). build m (outcome_at a) ++ drop m old) at ∙ build_done (intervals_of a) (outcome_at a) old x.old_length;
         account = λ t. record { outcomes = tens at t; methane = p t; destroyed = p t - q t; uncombusted = q t };
       }
     where

@@ -45,5 +45,5 @@ pub record Right (a : Air) : Type 0 where
 
 -- the row and the account that the definitions build
 pub record Filled (a : Air) (outcome_row : List ℕ) (given : Account) : Type 0 where
-  pub outcome_row_lem : outcome_row ≡ build (intervals_of a) (outcome_at a)
+  pub outcome_built : outcome_row ≡ build (intervals_of a) (outcome_at a)
   pub account : given ≡ account_of a

@@ -1,6 +1,6 @@
 -- One interval of an oxidiser: the methane that enters and leaves it, its outcome (rule 19.7), and what it then counts for.
 -- Assumes nothing.
-use Rattle.std.specs.Prelude.{ℕ, ◌+◌, ◌*◌, ◌/◌, ◌≡◌, refl, Bool, true, false, eqb, ltb, ℤ, pos, negsuc}
+use Rattle.std.specs.Prelude.{ℕ, ◌*◌, ◌/◌, ◌≡◌, refl, Bool, true, false, eqb, ltb, ℤ, pos}
 use Rattle.rows.specs.Rows.{pick, either}
 use Rattle.protocol.specs.Ranges.{kelvin_of, mark}
 use Rattle.protocol.specs.Rounding.{ceil_div}

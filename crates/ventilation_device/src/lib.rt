@@ -1,4 +1,6 @@
 // One oxidiser's row: the outcome of each interval, and the device's account.
+#![tactic(auto)]
+
 ghost use Rattle.std.specs.Prelude.{◌≤◌, ◌≡◌, true, length};
 ghost use Rattle.columns.specs.Streams.{gas_of, gas_missing, gas_right, air_of, stream_now, stream_at};
 ghost use Rattle.ventilation_device.specs.Outcomes.{entry_of};
@@ -8,7 +10,7 @@ use accounts::{Account, OUTCOMES};
 use protocol::MISSING;
 
 // One stream in one interval, as recorded.
-#[derive(Drop)]
+#[derive(Clone, Copy)]
 pub struct Readings {
     pub flow: u16,
     pub ppm: u16,
@@ -17,7 +19,7 @@ pub struct Readings {
 }
 
 // An interval's outcome, and the methane litres that it counts for, those that enter and those that leave.
-#[derive(Drop)]
+#[derive(Clone, Copy)]
 pub struct Entry {
     pub outcome: u8,
     pub inlet: u64,

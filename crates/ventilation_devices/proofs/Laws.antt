@@ -1,6 +1,6 @@
 -- Laws of each oxidiser's part of the rows, and of its account.
 -- Assumes nothing.
-use Prim.Native.Nat.{ℕ, ◌+◌, ◌-◌, ◌*◌, ◌≤◌, ◌<◌}
+use Prim.Native.Nat.{ℕ, ◌+◌, ◌*◌, ◌≤◌, ◌<◌}
 use mathlib.Core.Path.{◌≡◌, sym, ap, ◌∙◌, subst}
 use mathlib.Core.List.{List}
 use native.Mathlib.Nat.{le_trans, add-sub_cancel_left}
@@ -10,7 +10,7 @@ use lib.ListN.{length, get_or}
 use Rattle.rows.specs.Rows.{build, sum_to, count_of, hit, put}
 use Rattle.rows.proofs.Laws.{length-build, get_or-build, length-put}
 use Rattle.rows.proofs.Sums.{sum_to_ext, sum_to_zero}
-use Rattle.columns.specs.Streams.{Air, gas_at, AirLong, AirRight, air_part}
+use Rattle.columns.specs.Streams.{Air, gas_at, AirLong, AirRight}
 use Rattle.columns.specs.Series.{row_of}
 use Rattle.columns.proofs.Laws as Series
 use Rattle.columns.proofs.Laws.{part_end}
@@ -126,15 +126,15 @@ module _ (l : Lent) (devices : ℕ) (x : Sound l devices) (d : ℕ) (h : d < dev
       → length (put xs (d * l.intervals) (d * l.intervals + l.intervals) o) ≡ length xs
   row_kept xs o a y q =
       length-put xs (d * l.intervals) (d * l.intervals + l.intervals) o (omega arith) (part_end d devices l.intervals (length xs) h q)
-      (ap length y.outcome_row_lem ∙ length-build (intervals_of (air_in l d)) (outcome_at (air_in l d)) ∙ row_long l devices x d h ∙
+      (ap length y.outcome_built ∙ length-build (intervals_of (air_in l d)) (outcome_at (air_in l d)) ∙ row_long l devices x d h ∙
       sym (add-sub_cancel_left (d * l.intervals) l.intervals))
 
   pub row_written : (xs o : List ℕ) (a : Account) → Filled (air_in l d) o a → Written l d xs (put xs (d * l.intervals) (d * l.intervals + l.intervals) o) a
   unfolding outcome_part
   row_written xs o a y =
       record {
-        outcome_row_lem =
+        outcome_built =
             ap (put xs (d * l.intervals) (d * l.intervals + l.intervals))
-            (y.outcome_row_lem ∙ ap (λ (m : ℕ). build m (outcome_at (air_in l d))) (row_long l devices x d h));
+            (y.outcome_built ∙ ap (λ (m : ℕ). build m (outcome_at (air_in l d))) (row_long l devices x d h));
         account = y.account;
       }

@@ -55,7 +55,7 @@ module _ (l : Lent) (devices : ℕ) (before : Results) where
           within = omega arith;
           sound = x.sound;
           outcomes =
-              row_step l.intervals devices (outcome_part l) before.outcome now.outcome new.outcome d (part_long l) h x.outcomes w.outcome_row_lem;
+              row_step l.intervals devices (outcome_part l) before.outcome now.outcome new.outcome d (part_long l) h x.outcomes w.outcome_built;
           booked = booking_more (account_in l) ten before.accounts x.booked new.accounts t' a (few h) w.account k e;
         }
 

@@ -1,6 +1,6 @@
 -- Each oxidiser's own part of what is lent, the row joined again, and the sums over devices.
 -- Assumes nothing.
-use Rattle.std.specs.Prelude.{ℕ, ◌+◌, ◌*◌, ◌≤◌, ◌<◌, ◌≡◌, List}
+use Rattle.std.specs.Prelude.{ℕ, ◌+◌, ◌*◌, ◌≤◌, ◌≡◌, List}
 use Rattle.rows.specs.Rows.{build, join, put}
 use Rattle.protocol.specs.Ranges.{intervals_most, devices_most}
 use Rattle.columns.specs.Streams.{Air, AirLong, AirRight, air_part}
@@ -51,5 +51,5 @@ pub record AllWritten (l : Lent) (devices : ℕ) (before after : Results) (t : T
 
 -- device d's part of the row written, the rest of it as it was, and its account
 pub record Written (l : Lent) (d : ℕ) (outcome outcome' : List ℕ) (a : Account) : Type 0 where
-  pub outcome_row_lem : outcome' ≡ put outcome (d * l.intervals) (d * l.intervals + l.intervals) (outcome_part l d)
+  pub outcome_built : outcome' ≡ put outcome (d * l.intervals) (d * l.intervals + l.intervals) (outcome_part l d)
   pub account : a ≡ account_in l d

@@ -1,4 +1,6 @@
 // All oxidisers, one after the other: each device's part of the lent row and its account are written on their own.
+#![tactic(auto)]
+
 ghost use Rattle.std.specs.Prelude.{◌*◌, ◌<◌, ◌≡◌, length};
 ghost use Rattle.protocol.specs.Ranges.{devices_most};
 ghost use Rattle.columns.specs.Streams.{air_of, stream_now, stream_at};
@@ -92,8 +94,8 @@ pub fn fill_rows(
               (stream_at exhaust_flow exhaust_ppm exhaust_temp exhaust_press) status.now;
         })
         devices
-        (record { outcome = outcome.entry.now; accounts = accounts.old })
-        (record { outcome = outcome.exit.now; accounts = accounts.new })
+        (record { outcome = outcome.old; accounts = accounts.old })
+        (record { outcome = outcome.new; accounts = accounts.new })
         result }
 {
     let mut t = accounts::none();

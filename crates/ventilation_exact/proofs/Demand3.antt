@@ -67,7 +67,7 @@ module _ (g : Gas) (s : Possible g) where
   above = omega (arith, s.warm)
 
   most : g.ppm * 50 ≤ methane_under
-  most = omega (arith, s.ppm_most_lem)
+  most = omega (arith, s.ppm_within)
 
   gas_down : RoundedDown 50 (exact_methane g) (methane_litres g.flow g.ppm g.temp g.press) 1
   unfolding exact_methane methane_litres methane_litres_in hundredths_of correction_down

@@ -1,7 +1,7 @@
 -- The exact reduction of ventilation air (rule 19.11), beside what is reported of the same readings, and the distance that may
 -- lie between the two.
 -- Assumes nothing.
-use Rattle.std.specs.Prelude.{ℕ, ◌+◌, ◌-◌, ◌*◌, ◌≤◌, ◌<◌, ◌≡◌, refl, Bool, true, ℤ, pos}
+use Rattle.std.specs.Prelude.{ℕ, ◌-◌, ◌*◌, ◌≤◌, ◌<◌, ◌≡◌, refl, Bool, true, ℤ, pos}
 use Rattle.rows.specs.Rows.{sum_to, pick}
 use Rattle.protocol.specs.Numbers.{methane_mg}
 use Rattle.protocol.specs.Ranges.{kelvin_of, ppm_most}
@@ -27,7 +27,7 @@ pub record Used : Type 0 where
 -- a stream above absolute zero, with at most 20,000 ppm
 pub record Possible (g : Gas) : Type 0 where
   pub warm : 0 < kelvin_of g.temp
-  pub ppm_most_lem : g.ppm ≤ ppm_most
+  pub ppm_within : g.ppm ≤ ppm_most
 
 -- what accepted records give: both streams of a counted interval are such
 pub record AllPossible (u : Used) : Type 0 where

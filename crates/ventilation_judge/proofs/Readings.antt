@@ -7,7 +7,6 @@ use mathlib.Core.List.{List, [], ◌∷◌}
 use lib.ListN.{length}
 use Rattle.rows.specs.Rows.{FirstOf}
 use Rattle.refusals.specs.declared.Refusal.{Refusal}
-use Rattle.refusals.specs.declared.Refusal.TheVariants as Refusal
 use Rattle.refusals.specs.declared.Verdict.TheVariants.{Refused}
 use Rattle.steps.specs.Step.{Step, Refuses}
 use Rattle.steps.specs.Steps.{intervals_step, devices_step, lengths_step, fuels_step}
@@ -81,6 +80,7 @@ module _ (c : Call) (side : Side) (device interval : ℕ) where
       last : Refuses (readings_step c.intervals c.air ∷ fuels_step c.fuel ∷ []) told → ReadingTold c side device interval
       last (Refuses.here k x h e) = here k x h e
       last (Refuses.later a (Refuses.here k x h e)) = absurd ((other side device interval).3 _ e)
+      last (Refuses.later a (Refuses.later b x)) = elim x [ ]
 
   -- 22 is `refusal_of Inlet`, 23 `refusal_of Exhaust` and 21 `refusal_of Status`
   pub reading_told : judged c ≡ Refused (refusal_of side device interval) → ReadingTold c side device interval

@@ -22,9 +22,9 @@ use Rattle.ventilation_judge.proofs.Laws.{judged_clear}
 -- N and D are within their limits, and every slice that is read is as long as they ask
 pub record Sized (c : Call) : Type 0 where
   pub intervals_least : 1 ≤ c.intervals
-  pub intervals_most_lem : c.intervals ≤ intervals_most
+  pub intervals_within : c.intervals ≤ intervals_most
   pub devices_least : 1 ≤ c.devices
-  pub devices_most_lem : c.devices ≤ devices_most
+  pub devices_within : c.devices ≤ devices_most
   pub long : AirLong c.air (c.devices * c.intervals)
   pub factor_long : length c.fuel.factor ≡ length c.fuel.quantity
 
@@ -48,9 +48,9 @@ module _ (c : Call) (clear : Clear (lengths_step (lengths_of c))) where
       let d-right = devices_clear c.devices d in
       record {
         intervals_least = within_least _ _ n-right;
-        intervals_most_lem = within_most _ _ n-right;
+        intervals_within = within_most _ _ n-right;
         devices_least = within_least _ _ d-right;
-        devices_most_lem = within_most _ _ d-right;
+        devices_within = within_most _ _ d-right;
         long =
             record {
               inlet = record { flow = same 0 (omega arith); ppm = same 1 (omega arith); temp = same 2 (omega arith); press = same 3 (omega arith) };
