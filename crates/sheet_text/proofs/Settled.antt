@@ -12,14 +12,11 @@ use Rattle.text.specs.Form.{RefusedAt}
 use Rattle.text.proofs.Forms.{refused_once}
 use Rattle.text.proofs.Tables.{lines_inj}
 use Rattle.refusals.specs.declared.Refusal.{Refusal}
-use Rattle.refusals.specs.declared.Refusal.TheVariants as Refusal
 use Rattle.refusals.specs.declared.Told.{Told}
 use Rattle.refusals.specs.Table.{told_of, nothing}
 use Rattle.figures.specs.declared.Figures.{Figures}
 use Rattle.sheet_text.specs.declared.ReadAnswer.{ReadAnswer}
-use Rattle.sheet_text.specs.declared.ReadAnswer.TheVariants as ReadAnswer
 use Rattle.sheet_text.specs.declared.WriteAnswer.{WriteAnswer}
-use Rattle.sheet_text.specs.declared.WriteAnswer.TheVariants as WriteAnswer
 use Rattle.sheet_text.specs.Sheet.{schema, values_of, text_of, InRange, IsSheet}
 use Rattle.sheet_text.specs.Read as Read
 use Rattle.sheet_text.specs.Read.{ReadRight, SheetOf, told_in}
@@ -58,10 +55,10 @@ offset_once = refused_once IsSheet
 
 -- A sheet is not refused.
 never_both : (t : List ℕ) (f : Figures) (r : Refusal) → SheetOf t f → Read.Refused t r → ⊥
-never_both t f (Refusal.NoSheet k) p (Read.Refused.no_sheet x) = x.none (record { value = f; taken = p.in_range; is = p.is })
+never_both t f r p (Read.Refused.no_sheet x) = x.none (record { value = f; taken = p.in_range; is = p.is })
 
 refused_same : (t : List ℕ) (r s : Refusal) → Read.Refused t r → Read.Refused t s → r ≡ s
-refused_same t (Refusal.NoSheet j) (Refusal.NoSheet k) (Read.Refused.no_sheet x) (Read.Refused.no_sheet y) = ap Refusal.NoSheet (offset_once t j k x y)
+refused_same t r s (Read.Refused.no_sheet x) (Read.Refused.no_sheet y) = ap Refusal.NoSheet (offset_once t _ _ x y)
 
 -- Any two answers that `read`'s contract permits are equal.
 pub read_settled : (t : List ℕ) (a b : ReadAnswer) → ReadRight t a → ReadRight t b → a ≡ b
@@ -81,10 +78,10 @@ read_answered t a x =
     }
 
 written_or_short : (f : Figures) (old new other : List ℕ) (m : ℕ) (r : Refusal) → Write.Done f old new m → Write.Refused f old other r → ⊥
-written_or_short f old new other m (Refusal.ShortBuffer n) p (Write.Refused.short_buffer q) = omega (arith, p.size, p.room, q.needed, q.short)
+written_or_short f old new other m r p (Write.Refused.short_buffer q) = omega (arith, p.size, p.room, q.needed, q.short)
 
 short_same : (f : Figures) (old new other : List ℕ) (r s : Refusal) → Write.Refused f old new r → Write.Refused f old other s → (r ≡ s) × (new ≡ other)
-short_same f old new other (Refusal.ShortBuffer m) (Refusal.ShortBuffer n) (Write.Refused.short_buffer p) (Write.Refused.short_buffer q) =
+short_same f old new other r s (Write.Refused.short_buffer p) (Write.Refused.short_buffer q) =
     (ap Refusal.ShortBuffer (p.needed ∙ sym q.needed), p.is ∙ sym q.is)
 
 -- Any two answers and buffers that `write`'s contract permits are equal.
@@ -108,7 +105,7 @@ write_answered f old new a x =
 
 -- A refusal is not told as nothing.
 refused_told : (t : List ℕ) (r : Refusal) → Read.Refused t r → told_of r ≡ nothing → ⊥
-refused_told t (Refusal.NoSheet k) (Read.Refused.no_sheet x) e = omega (arith, ap (λ (a : Told). a.number) e)
+refused_told t r (Read.Refused.no_sheet x) e = omega (arith, ap (λ (a : Told). a.number) e)
 
 -- Nothing is told of a text exactly if it is some sheet's rendering.
 pub accepted_iff : (t : List ℕ) (a : ReadAnswer) → ReadRight t a → (told_in a ≡ nothing) ↔ IsSheet t

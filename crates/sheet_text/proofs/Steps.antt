@@ -7,13 +7,12 @@ use denote.Enum.Declared.{tag_of}
 use lib.ListN.{length, get_or, take, drop, length-append}
 use lib.Seq.{sets, length-sets, take-suc, take_all, split_at}
 use lib.IntN.{ℤ, pos, negsuc}
+use lib.Signed.{mag}
 use mir.Syntax.{w64}
 use mir.Val.{SFits, to_z, of_z}
 use mir.ValLaws.{to_z-of_z}
 use Rattle.text.specs.declared.Natural.{Natural}
-use Rattle.text.specs.declared.Natural.TheVariants as Natural
 use Rattle.text.specs.declared.Signed.{Signed}
-use Rattle.text.specs.declared.Signed.TheVariants as Signed
 use Rattle.text.specs.Form.{Of, ReadAs, Broken, RefusedAt}
 use Rattle.text.specs.Decimal.{Range, Fit, plain}
 use Rattle.text.specs.Line.{Entry, line_of, line, lines_of, AllFit, lines}
@@ -31,8 +30,6 @@ use Rattle.sheet_text.specs.Head.{HeadIn, volumes_of, head_wrong}
 use Rattle.sheet_text.specs.Write.{Done, Short}
 use Rattle.sheet_text.specs.declared.Volumes.{Volumes}
 use Rattle.sheet_text.specs.declared.Head.{Head}
-use Rattle.sheet_text.specs.declared.Head.TheVariants as Head
-use Rattle.sheet_text.specs.contracts.Head as HeadType
 
 abbrev blank : Entry
 blank = record { key = []; range = plain 0 0 }
@@ -166,6 +163,14 @@ pub signed_fit : (z : ℤ) → SFits w64 z → Fit signed64 z
 signed_fit (pos n) h = (omega arith, omega (arith, h.sfits))
 signed_fit (negsuc n) h = h.sfits
 
+-- Figures of 64 bits are in range.
+abbrev pub Sized : Figures → Type 0
+Sized f = (f.«intervals» < 2 ^ 64) × (f.«devices» < 2 ^ 64) × (f.«counted» < 2 ^ 64) × (f.«replaced» < 2 ^ 64) × (f.«excluded» < 2 ^ 64) × (f.methane_l < 2 ^ 64) × (f.destroyed_l < 2 ^ 64) × (f.uncombusted_l < 2 ^ 64) × (f.baseline_mg < 2 ^ 64) × (f.co2_mg < 2 ^ 64) × (f.uncombusted_mg < 2 ^ 64) × (f.fuel_mg < 2 ^ 64) × (mag f.reduction_mg < 2 ^ 63) × (mag f.«tonnes» < 2 ^ 63) × (f.«credits» < 2 ^ 64)
+
+pub in_range : (f : Figures) → Sized f → InRange f
+unfolding InRange schema values_of
+in_range f h = ((omega arith, omega arith), ((omega arith, omega arith), ((omega arith, omega arith), ((omega arith, omega arith), ((omega arith, omega arith), ((omega arith, omega arith), ((omega arith, omega arith), ((omega arith, omega arith), ((omega arith, omega arith), ((omega arith, omega arith), ((omega arith, omega arith), ((omega arith, omega arith), (signed_fit f.reduction_mg (record { sfits = omega arith }), (signed_fit f.«tonnes» (record { sfits = omega arith }), ((omega arith, omega arith), tt)))))))))))))))
+
 back_values : (zs : List ℤ) → AllFit schema zs → values_of (figures_of zs) ≡ zs
 unfolding schema values_of figures_of tab
 back_values zs h =
@@ -231,20 +236,21 @@ module _ {t : List ℕ} {zs : List ℤ} {p : ℕ} (i : ℕ) (h : i < 15) (a : Re
   pub read_fit : {r : Signed} {z : ℤ} {q : ℕ} → r ≡ Signed.Value z q → SignedIn (line (entry_at i).key (entry_at i).range) t p r → Fit (entry_at i).range z
   read_fit {r} {z} {q} e b = (signed_read (line (entry_at i).key (entry_at i).range) t p r z q e b).taken
 
-  pub natural_refused : (r : Natural) {k : ℕ} → tag_of NaturalType.the_type r ≡ 1 → k ≡ wrong_at r → NaturalIn (line (entry_at i).key (entry_at i).range) t p r →
+  pub natural_refused : {r : Natural} {j k : ℕ} → r ≡ Natural.Wrong j → k ≡ wrong_at r → NaturalIn (line (entry_at i).key (entry_at i).range) t p r →
       RefusedAt IsSheet t k
-  natural_refused r {k} tag e b = read_refused t i h zs p a k (natural_wrong (line (entry_at i).key (entry_at i).range) t p k r tag e b)
+  natural_refused {r} {j} {k} w e b =
+      read_refused t i h zs p a k (natural_wrong (line (entry_at i).key (entry_at i).range) t p k r (ap (tag_of NaturalType.the_type) w) e b)
 
-  pub signed_refused : (r : Signed) {k : ℕ} → tag_of SignedType.the_type r ≡ 1 → k ≡ signed_wrong_at r → SignedIn (line (entry_at i).key (entry_at i).range) t p
-      r → RefusedAt IsSheet t k
-  signed_refused r {k} tag e b = read_refused t i h zs p a k (signed_wrong (line (entry_at i).key (entry_at i).range) t p k r tag e b)
+  pub signed_refused : {r : Signed} {j k : ℕ} → r ≡ Signed.Wrong j → k ≡ signed_wrong_at r → SignedIn (line (entry_at i).key (entry_at i).range) t p r →
+      RefusedAt IsSheet t k
+  signed_refused {r} {j} {k} w e b =
+      read_refused t i h zs p a k (signed_wrong (line (entry_at i).key (entry_at i).range) t p k r (ap (tag_of SignedType.the_type) w) e b)
 
 pub head_read : {t : List ℕ} {r : Head} {v : Volumes} {q : ℕ} → r ≡ Head.Read v q → HeadIn t r → ReadAs (lines (take 8 schema)) t 0 q (volumes_of v)
 head_read {t} e b = subst (HeadIn t) e b
 
-pub head_refused : {t : List ℕ} (r : Head) {k : ℕ} → tag_of HeadType.the_type r ≡ 1 → k ≡ head_wrong r → HeadIn t r → RefusedAt IsSheet t k
-head_refused (Head.Read v q) tag e b = absurd (omega (arith, tag))
-head_refused {t} (Head.Wrong j) tag e b = subst (λ (x : ℕ). RefusedAt IsSheet t x) (sym e) b
+pub head_refused : {t : List ℕ} {r : Head} {j k : ℕ} → r ≡ Head.Wrong j → k ≡ head_wrong r → HeadIn t r → RefusedAt IsSheet t k
+head_refused {t} w e b = subst (λ (x : ℕ). RefusedAt IsSheet t x) (sym (e ∙ ap head_wrong w)) (subst (HeadIn t) w b)
 
 module _ {t : List ℕ} {zs : List ℤ} {p : ℕ} (a : ReadAs (lines (take 15 schema)) t 0 p zs) where
   all_lines : take 15 schema ≡ schema

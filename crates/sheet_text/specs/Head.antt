@@ -4,7 +4,6 @@ use Rattle.text.specs.Form.{ReadAs, RefusedAt}
 use Rattle.text.specs.Line.{lines}
 use Rattle.sheet_text.specs.declared.Volumes.{Volumes}
 use Rattle.sheet_text.specs.declared.Head.{Head}
-use Rattle.sheet_text.specs.declared.Head.TheVariants as Head
 use Rattle.sheet_text.specs.Sheet.{IsSheet, schema}
 
 -- The values of a sheet's first eight lines.

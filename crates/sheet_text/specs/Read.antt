@@ -2,12 +2,10 @@
 use Rattle.std.specs.Prelude.{ℕ, ◌≡◌, List}
 use Rattle.text.specs.Form.{RefusedAt}
 use Rattle.refusals.specs.declared.Refusal.{Refusal}
-use Rattle.refusals.specs.declared.Refusal.TheVariants as Refusal
 use Rattle.refusals.specs.declared.Told.{Told}
 use Rattle.refusals.specs.Table.{told_of, nothing}
 use Rattle.figures.specs.declared.Figures.{Figures}
 use Rattle.sheet_text.specs.declared.ReadAnswer.{ReadAnswer}
-use Rattle.sheet_text.specs.declared.ReadAnswer.TheVariants as ReadAnswer
 use Rattle.sheet_text.specs.Sheet.{text_of, InRange, IsSheet}
 
 -- What an answer tells: nothing of a sheet (rule 5.7), else the refusal as the table has it.

@@ -2,12 +2,10 @@
 use Rattle.std.specs.Prelude.{ℕ, ◌≤◌, ◌<◌, ◌≡◌, List, length}
 use Rattle.text.specs.Answer.{Leads}
 use Rattle.refusals.specs.declared.Refusal.{Refusal}
-use Rattle.refusals.specs.declared.Refusal.TheVariants as Refusal
 use Rattle.refusals.specs.declared.Told.{Told}
 use Rattle.refusals.specs.Table.{told_of, nothing}
 use Rattle.figures.specs.declared.Figures.{Figures}
 use Rattle.sheet_text.specs.declared.WriteAnswer.{WriteAnswer}
-use Rattle.sheet_text.specs.declared.WriteAnswer.TheVariants as WriteAnswer
 use Rattle.sheet_text.specs.Sheet.{text_of, sheet_most}
 
 -- What an answer tells: nothing where the sheet is written (rule 5.7), else the refusal as the table has it.

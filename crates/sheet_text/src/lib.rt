@@ -1,4 +1,6 @@
 // The sheet as text: written from its figures and read back. A text is a sheet if it is some figures' rendering (specs/Sheet.antt).
+#![tactic(auto)]
+
 ghost use Rattle.std.specs.Prelude.{◌≤◌, ◌≡◌, length, take};
 ghost use Rattle.text.specs.Answer.{Put};
 ghost use Rattle.text.specs.Line.{lines_of};
@@ -21,14 +23,14 @@ const SIGNED_MOST: u64 = 9223372036854775807;
 pub const SHEET_MOST: usize = 465;
 
 // The figures, or that the text is no sheet.
-#[derive(Drop)]
+#[derive(Clone, Copy)]
 pub enum ReadAnswer {
     Sheet(Figures),
     Refused(Refusal),
 }
 
 // The length written, or that the buffer is too short.
-#[derive(Drop)]
+#[derive(Clone, Copy)]
 pub enum WriteAnswer {
     Written(usize),
     Refused(Refusal),
@@ -100,7 +102,7 @@ pub fn write(f: Figures, buf: &mut [u8]) -> WriteAnswer
 }
 
 // The sheet's lines of counts and litres.
-#[derive(Drop)]
+#[derive(Clone, Copy)]
 struct Volumes {
     intervals: u64,
     devices: u64,
@@ -113,7 +115,7 @@ struct Volumes {
 }
 
 // These lines and the place after them, or the offset of the first byte that no sheet could have there.
-#[derive(Drop)]
+#[derive(Clone, Copy)]
 enum Head {
     Read(Volumes, usize),
     Wrong(usize),

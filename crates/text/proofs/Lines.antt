@@ -9,9 +9,7 @@ use Rattle.text.specs.contracts.Natural as NaturalType
 use Rattle.text.specs.contracts.Signed as SignedType
 use lib.IntN.{ℤ, pos}
 use Rattle.text.specs.declared.Natural.{Natural}
-use Rattle.text.specs.declared.Natural.TheVariants as Natural
 use Rattle.text.specs.declared.Signed.{Signed}
-use Rattle.text.specs.declared.Signed.TheVariants as Signed
 use Rattle.text.specs.Form.{Form, Of, ReadAs, Broken}
 use Rattle.text.specs.Decimal.{Range, number}
 use Rattle.text.specs.Line.{line}

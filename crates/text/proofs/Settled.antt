@@ -9,9 +9,7 @@ use lib.ListN.{length, get_or, take, length-append}
 use lib.Seq.{take-append-add, take-append_seam, length-take-le, get_or-take}
 use lib.IntN.{ℤ, pos}
 use Rattle.text.specs.declared.Natural.{Natural}
-use Rattle.text.specs.declared.Natural.TheVariants as Natural
 use Rattle.text.specs.declared.Signed.{Signed}
-use Rattle.text.specs.declared.Signed.TheVariants as Signed
 use Rattle.text.specs.Form.{Form, Stands}
 use Rattle.text.specs.Decimal.{decimal, Range, Fit, number}
 use Rattle.text.specs.Answer.{NaturalIn, SignedIn, Matched, Put}

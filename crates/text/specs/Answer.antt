@@ -2,9 +2,7 @@
 use Rattle.std.specs.Prelude.{ℕ, ◌+◌, ◌^◌, ◌≤◌, ◌<◌, ◌≡◌, List, ◌++◌, length, take, drop, get_or, ℤ, pos}
 use Rattle.std.proofs.lemmas.List.Edits.{sets}
 use Rattle.text.specs.declared.Natural.{Natural}
-use Rattle.text.specs.declared.Natural.TheVariants as Natural
 use Rattle.text.specs.declared.Signed.{Signed}
-use Rattle.text.specs.declared.Signed.TheVariants as Signed
 use Rattle.text.specs.Form.{Form, Of, ReadAs, Broken, Stands}
 
 -- An unsigned value and the place after it, or the place where the text breaks off.

@@ -1,7 +1,6 @@
 use Rattle.std.specs.Prelude.{ℕ, List}
 use Prim.Native.String.{String, [], ◌∷◌}
 use Prim.Native.Char.{code}
-use mathlib.Core.List as List
 
 -- The bytes of a text in ASCII, so that keys are read as they are written in a sheet.
 abbrev pub bytes : String → List ℕ

@@ -1,5 +1,7 @@
 // Decimal numbers (rule 11.2) and key=value lines (rule 11.1), read from a text. The records' and the sheet's texts are
 // made of these parts; what a form is and what a refusal means is in specs/Form.antt. crates/writing writes them.
+#![tactic(auto)]
+
 ghost use Rattle.std.specs.Prelude.{◌+◌, ◌*◌, ◌^◌, ◌≤◌, ◌<◌, ◌≡◌, ltb, length, negsuc};
 ghost use Rattle.text.specs.Decimal.{number, plain, signed};
 ghost use Rattle.text.specs.Line.{line};
@@ -7,14 +9,14 @@ ghost use Rattle.text.specs.Answer.{NaturalIn, SignedIn, wrong_at, signed_wrong_
 ghost use Rattle.text.specs.Inner.{SameKey, word_at, DigitTold};
 
 // An unsigned number and the place after it, or the place of the first byte that cannot stand there.
-#[derive(Drop)]
+#[derive(Clone, Copy)]
 pub enum Natural {
     Value(u64, usize),
     Wrong(usize),
 }
 
 // The same for a signed number.
-#[derive(Drop)]
+#[derive(Clone, Copy)]
 pub enum Signed {
     Value(i64, usize),
     Wrong(usize),

@@ -1,5 +1,7 @@
 // Decimal numbers (rule 11.2) and key=value lines (rule 11.1), written into a lent buffer. Their forms are in
 // crates/text, whose readers read them back.
+#![tactic(auto)]
+
 ghost use Rattle.std.specs.Prelude.{◌+◌, ◌^◌, ◌<◌, ◌≡◌, [], ◌∷◌, length, set, false, pos, negsuc};
 ghost use Rattle.std.specs.Int.Signed.{non_neg};
 ghost use Rattle.text.specs.Decimal.{dec, decimal};
