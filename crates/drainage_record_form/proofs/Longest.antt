@@ -14,7 +14,6 @@ use Rattle.rows.proofs.Laws.{both_true}
 use Rattle.protocol.specs.Ranges.{from_one, intervals_most, devices_most, checks_most, device_checks, fuels_most}
 use Rattle.text.specs.Decimal.{Range, Fit, decimal}
 use Rattle.text.proofs.Decimals.{tens, dec_length}
-use Rattle.drainage_record_form.specs.Field as Field
 use Rattle.drainage_record_form.specs.Field.{Field, key_of, range_of, is_mark, line_text, natural}
 use Rattle.drainage_record_form.specs.Plan.{Line, line_is, Plan, ask, times, text_of}
 use Rattle.drainage_record_form.specs.File.{fuel_lines, check_lines, entry_lines, device_lines, file, Record, Begins, Headed, Limits, Fine}

@@ -13,7 +13,6 @@ use Rattle.text.proofs.Decimals.{below_or}
 use Rattle.text.proofs.Forms.{cancel, broken_not_read, broken_once}
 use Rattle.text.proofs.Settled.{stands_in}
 use Rattle.columns.specs.Series.{series_of, checks_of, fuel_of}
-use Rattle.drainage_record_form.specs.Field as Field
 use Rattle.drainage_record_form.specs.Field.{Field, line_form, line_text}
 use Rattle.drainage_record_form.specs.Plan.{Line, Plan, done, ask, After, text_of}
 use Rattle.drainage_record_form.specs.Rows.{Rows, stored}

@@ -7,7 +7,6 @@ use native.Mathlib.Omega.{arith}
 use lib.Dec.{leb}
 use lib.IntN.{ℤ, pos}
 use lib.ListN.{length, take, length-replicate}
-use denote.Enum.Declared.{tag_of}
 use borrow.Author.Tests.{leb-true}
 use Rattle.rows.specs.Rows.{pick}
 use Rattle.protocol.specs.Ranges.{intervals_most, devices_most, device_checks, fuels_most}
@@ -15,7 +14,6 @@ use Rattle.text.specs.Answer.{Leads}
 use Rattle.columns.specs.Series.{Room, series_of, series_take, checks_take, fuel_take}
 use Rattle.columns.proofs.Laws.{each_as_long}
 use Rattle.refusals.specs.declared.Refusal.{Refusal}
-use Rattle.refusals.specs.declared.Refusal.TheVariants as Refusal
 use Rattle.refusals.specs.declared.Told.{Told}
 use Rattle.refusals.specs.Table.{told_of}
 use Rattle.drainage_judge.specs.Call.{Call}
@@ -24,7 +22,6 @@ use Rattle.steps.proofs.Clear.{within_most}
 use Rattle.drainage.specs.Promise.{answer_by, Settled}
 use Rattle.drainage.proofs.Settling.{settled_call}
 use Rattle.accounts.specs.declared.Answer.{Answer}
-use Rattle.drainage_record_form.specs.Field as Field
 use Rattle.drainage_record_form.specs.Field.{Field}
 use Rattle.drainage_record_form.specs.Plan.{Line, line_is}
 use Rattle.drainage_record_form.specs.Rows.{Rows, with_series, store, stored, room_of, lesser}
@@ -33,8 +30,6 @@ use Rattle.drainage_record_form.proofs.Covered.{SameLong, covered, stored_long}
 use Rattle.drainage_record.specs.Read.{told_in, ReadRight, RecordRead, Outside, NoRoom, Wrong, Refused}
 use Rattle.drainage_record.specs.declared.Header.{Header}
 use Rattle.drainage_record.specs.declared.ReadAnswer.{ReadAnswer}
-use Rattle.drainage_record.specs.declared.ReadAnswer.TheVariants as ReadAnswer
-use Rattle.drainage_record.specs.contracts.ReadAnswer as ReadAnswerType
 use Rattle.drainage_report.specs.Quantified.{Roomy, ResultRows, Quantified, part_of, parts_of, parts_after, call_of, answer_to}
 use Rattle.drainage_report.specs.Report.{refusal_text, printed, Lent, reader_rows, output_of, results_of, AsLong, Whatever, Reported}
 use Rattle.drainage_report.proofs.Laws.{lesser_first}
@@ -113,13 +108,13 @@ ready_for t l after h a e r = ready t l after h (subst (ReadRight t (reader_rows
 -- Reading leaves each row as long as it was.
 pub read_long : (t : List ℕ) (before after : Rows) (a : ReadAnswer) → ReadRight t before after a → SameLong after before
 read_long t before after (ReadAnswer.Record h) x = subst (λ (r : Rows). SameLong r before) (sym x.rows) (stored_long x.lines before)
-read_long t before after (ReadAnswer.Refused r) x = refused_long r x
+read_long t before after (ReadAnswer.Refused r) x = refused_long x
   where
-    refused_long : (r : Refusal) → Refused t before after r → SameLong after before
-    refused_long Refusal.Intervals (Refused.intervals y) = subst (λ (w : Rows). SameLong w before) (sym y.same) (stored_long [] before)
-    refused_long Refusal.Devices (Refused.devices y) = subst (λ (w : Rows). SameLong w before) (sym y.same) (stored_long [] before)
-    refused_long Refusal.Room (Refused.room y) = subst (λ (w : Rows). SameLong w before) (sym y.same) (stored_long [] before)
-    refused_long (Refusal.Line k) (Refused.line y) = subst (λ (w : Rows). SameLong w before) (sym y.rows) (stored_long y.lines before)
+    refused_long : {r : Refusal} → Refused t before after r → SameLong after before
+    refused_long (Refused.intervals y) = subst (λ (w : Rows). SameLong w before) (sym y.same) (stored_long [] before)
+    refused_long (Refused.devices y) = subst (λ (w : Rows). SameLong w before) (sym y.same) (stored_long [] before)
+    refused_long (Refused.room y) = subst (λ (w : Rows). SameLong w before) (sym y.same) (stored_long [] before)
+    refused_long (Refused.line y) = subst (λ (w : Rows). SameLong w before) (sym y.rows) (stored_long y.lines before)
 
 -- ---- the rows but for the series
 
@@ -244,13 +239,13 @@ module _ (t : List ℕ) (k l : Lent) (e : Serves k l) where
         read = record_other x;
         output = ap printed (answer_other after h x);
       }
-  served after (ReadAnswer.Refused r) x roomy = refused_other r x roomy
+  served after (ReadAnswer.Refused r) x roomy = refused_other x roomy
     where
-      refused_other : (r : Refusal) → Refused t (reader_rows l) after r → ((told_of r).number ≡ 13 → ⊥) → Whatever t k (refusal_text (told_of r))
-      refused_other Refusal.Intervals (Refused.intervals y) roomy = told_other Refusal.Intervals (reader_rows k) (Refused.intervals (outside_other y))
-      refused_other Refusal.Devices (Refused.devices y) roomy = told_other Refusal.Devices (reader_rows k) (Refused.devices (outside_other y))
-      refused_other Refusal.Room (Refused.room y) roomy = absurd (roomy refl)
-      refused_other (Refusal.Line n) (Refused.line y) roomy =
+      refused_other : {r : Refusal} → Refused t (reader_rows l) after r → ((told_of r).number ≡ 13 → ⊥) → Whatever t k (refusal_text (told_of r))
+      refused_other (Refused.intervals y) roomy = told_other Refusal.Intervals (reader_rows k) (Refused.intervals (outside_other y))
+      refused_other (Refused.devices y) roomy = told_other Refusal.Devices (reader_rows k) (Refused.devices (outside_other y))
+      refused_other (Refused.room y) roomy = absurd (roomy refl)
+      refused_other (Refused.line {l = n} y) roomy =
           told_other (Refusal.Line n) (stored y.lines (reader_rows k)) (Refused.line (wrong_other y))
 
 -- ---- rows of the same lengths
@@ -282,15 +277,17 @@ module _ (t : List ℕ) (k l : Lent) (e : AsLong k l) where
 
   -- What stands in rows of the same lengths does not matter.
   pub whatever_else : (after : Rows) (a : ReadAnswer) → ReadRight t (reader_rows l) after a → Whatever t k (output_of a after l)
-  whatever_else after (ReadAnswer.Refused Refusal.Room) (Refused.room y) =
-      told_other t k l (as_long_serves k l e) Refusal.Room (reader_rows k) (Refused.room (no_room y))
   whatever_else after (ReadAnswer.Record h) x = served t k l (as_long_serves k l e) after (ReadAnswer.Record h) x (λ q. omega (arith, q))
-  whatever_else after (ReadAnswer.Refused Refusal.Intervals) x =
-      served t k l (as_long_serves k l e) after (ReadAnswer.Refused Refusal.Intervals) x (λ q. omega (arith, q))
-  whatever_else after (ReadAnswer.Refused Refusal.Devices) x =
-      served t k l (as_long_serves k l e) after (ReadAnswer.Refused Refusal.Devices) x (λ q. omega (arith, q))
-  whatever_else after (ReadAnswer.Refused (Refusal.Line n)) x =
-      served t k l (as_long_serves k l e) after (ReadAnswer.Refused (Refusal.Line n)) x (λ q. omega (arith, q))
+  whatever_else after (ReadAnswer.Refused r) x = refused_else x
+    where
+      refused_else : {r : Refusal} → Refused t (reader_rows l) after r → Whatever t k (refusal_text (told_of r))
+      refused_else (Refused.room y) = told_other t k l (as_long_serves k l e) Refusal.Room (reader_rows k) (Refused.room (no_room y))
+      refused_else (Refused.intervals y) =
+          served t k l (as_long_serves k l e) after (ReadAnswer.Refused Refusal.Intervals) (Refused.intervals y) (λ q. omega (arith, q))
+      refused_else (Refused.devices y) =
+          served t k l (as_long_serves k l e) after (ReadAnswer.Refused Refusal.Devices) (Refused.devices y) (λ q. omega (arith, q))
+      refused_else (Refused.line {l = n} y) =
+          served t k l (as_long_serves k l e) after (ReadAnswer.Refused (Refusal.Line n)) (Refused.line y) (λ q. omega (arith, q))
 
 -- ---- the job
 
@@ -317,10 +314,10 @@ module _ (t : List ℕ) (l : Lent) (rows : Rows) (old new : List ℕ) (n : ℕ) 
       }
 
   -- The reader refused.
-  pub reported_refusal : (a : ReadAnswer) (x : Told) → tag_of ReadAnswerType.the_type a ≡ 1 → ReadRight t (reader_rows l) rows a → x ≡ told_in a
+  pub reported_refusal : (a : ReadAnswer) (x : Told) → ((h : Header) → a ≡ ReadAnswer.Record h → ⊥) → ReadRight t (reader_rows l) rows a → x ≡ told_in a
       → Leads (refusal_text x) old new n → Reported t l (lent_as rows l.results) old new n
-  reported_refusal (ReadAnswer.Record h) x tag r e w = absurd (omega (arith, tag))
-  reported_refusal (ReadAnswer.Refused y) x tag r e w =
+  reported_refusal (ReadAnswer.Record h) x none r e w = absurd (none h refl)
+  reported_refusal (ReadAnswer.Refused y) x none r e w =
       reported (ReadAnswer.Refused y) r (subst (λ (z : Told). Leads (refusal_text z) old new n) e w)
 
   -- A record was read and quantified.

@@ -19,14 +19,9 @@ use Rattle.sheet_text.specs.Sheet.{sheet_most}
 use Rattle.sheet_text.specs.Write as Write
 use Rattle.sheet_text.specs.Write.{WriteRight}
 use Rattle.sheet_text.specs.declared.WriteAnswer.{WriteAnswer}
-use Rattle.sheet_text.specs.declared.WriteAnswer.TheVariants as WriteAnswer
-use denote.Enum.Declared.{tag_of}
-use Rattle.sheet_text.specs.contracts.WriteAnswer as WriteAnswerType
 use Rattle.figures.specs.declared.Figures.{Figures}
 use Rattle.accounts.specs.declared.Answer.{Answer}
-use Rattle.accounts.specs.declared.Answer.TheVariants as Answer
 use Rattle.refusals.specs.declared.Refusal.{Refusal}
-use Rattle.refusals.specs.declared.Refusal.TheVariants as Refusal
 use Rattle.refusals.specs.declared.Told.{Told}
 use Rattle.refusals.specs.Table.{told, told_of}
 use Rattle.columns.specs.Series.{series_take, checks_take, fuel_take}
@@ -76,12 +71,11 @@ module _ (a : Answer) (old new : List ℕ) (n : ℕ) where
   sheet_leads f w e g r = subst (λ (x : Answer). Leads (printed x) old new n) (sym e) (subst (WriteRight f old new) g r)
 
   -- A sheet has at most sheet_most bytes.
-  pub never_short : (f : Figures) (w : WriteAnswer) → tag_of WriteAnswerType.the_type w ≡ 1 → WriteRight f old new w → sheet_most ≤ length old → ⊥
-  never_short f (WriteAnswer.Written k) tag r h = omega (arith, tag)
-  never_short f (WriteAnswer.Refused r) tag x h = impossible r x
+  pub never_short : (f : Figures) (w : WriteAnswer) → (k : Refusal) → w ≡ WriteAnswer.Refused k → WriteRight f old new w → sheet_most ≤ length old → ⊥
+  never_short f w k e x h = impossible (subst (WriteRight f old new) e x)
     where
-      impossible : (r : Refusal) → Write.Refused f old new r → ⊥
-      impossible (Refusal.ShortBuffer k) (Write.Refused.short_buffer s) = omega (arith, s.short, s.most)
+      impossible : {r : Refusal} → Write.Refused f old new r → ⊥
+      impossible (Write.Refused.short_buffer s) = omega (arith, s.short, s.most)
 
   pub answer_leads : (r : Refusal) (x : Told) → a ≡ Answer.Refused r → x ≡ told_of r → Leads (refusal_text x) old new n → Leads (printed a) old new n
   answer_leads r x e y l = subst (λ (b : Answer). Leads (printed b) old new n) (sym e) (subst (λ (z : Told). Leads (refusal_text z) old new n) y l)

@@ -11,13 +11,13 @@ use lib.ListN.{length, take, drop}
 use borrow.Author.Tests.{leb-true}
 use Rattle.rows.specs.Rows.{pick}
 use Rattle.text.specs.Answer.{Leads}
-use Rattle.refusals.specs.declared.Refusal.TheVariants as Refusal
-use Rattle.drainage_record_form.specs.Rows.{Rows, room_of, lesser}
+use Rattle.refusals.specs.declared.Refusal.{Refusal}
+use Rattle.refusals.specs.Table.{told_of}
+use Rattle.drainage_record_form.specs.Rows.{room_of, lesser}
 use Rattle.drainage_record_form.specs.File.{Headed}
 use Rattle.drainage_record_form.proofs.Files.{headed_once}
 use Rattle.drainage_record.specs.Read.{told_in, ReadRight, Refused}
 use Rattle.drainage_record.specs.declared.ReadAnswer.{ReadAnswer}
-use Rattle.drainage_record.specs.declared.ReadAnswer.TheVariants as ReadAnswer
 use Rattle.drainage_record.proofs.Beginning.{read_cut}
 use Rattle.drainage_record.proofs.Settled.{read_once}
 use Rattle.drainage_report.specs.Report.{Lent, reader_rows, output_of, results_of, AsLong, Whatever, Reported}
@@ -102,15 +102,18 @@ pub report_fits : (t : List ℕ) (l after : Lent) (old new : List ℕ) (n interv
     → intervals * devices ≤ room_of (reader_rows l) → (x : Reported t l after old new n) → (told_in x.answer).number ≡ 13 → ⊥
 report_fits t l after old new n intervals devices headed room x e = fits x.answer x.read e
   where
-    fits : (a : ReadAnswer) → ReadRight t (reader_rows l) x.rows a → (told_in a).number ≡ 13 → ⊥
-    fits (ReadAnswer.Refused Refusal.Room) (Refused.room y) q =
+    refused : {r : Refusal} → Refused t (reader_rows l) x.rows r → (told_of r).number ≡ 13 → ⊥
+    refused (Refused.room y) q =
         let same : (y.intervals ≡ intervals) × (y.devices ≡ devices) = headed_once y.intervals y.devices intervals devices y.headed headed in
         let product : y.intervals * y.devices ≡ intervals * devices = λ i. same.0 i * same.1 i in
         omega (arith, room, y.offence.2, product)
+    refused (Refused.intervals y) q = omega (arith, q)
+    refused (Refused.devices y) q = omega (arith, q)
+    refused (Refused.line y) q = omega (arith, q)
+
+    fits : (a : ReadAnswer) → ReadRight t (reader_rows l) x.rows a → (told_in a).number ≡ 13 → ⊥
+    fits (ReadAnswer.Refused r) y q = refused y q
     fits (ReadAnswer.Record h) y q = omega (arith, q)
-    fits (ReadAnswer.Refused Refusal.Intervals) y q = omega (arith, q)
-    fits (ReadAnswer.Refused Refusal.Devices) y q = omega (arith, q)
-    fits (ReadAnswer.Refused (Refusal.Line k)) y q = omega (arith, q)
 
 -- The program's rows have 2,976 entries, and its buffer 217,600 bytes.
 enough : 61 * 2976 + 35972 < 217600

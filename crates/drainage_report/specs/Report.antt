@@ -14,11 +14,9 @@ use Rattle.columns.specs.Series as Series
 use Rattle.columns.specs.Series.{Series, checks_of, fuel_of}
 use Rattle.drainage.specs.Promise.{Settled}
 use Rattle.accounts.specs.declared.Answer.{Answer}
-use Rattle.accounts.specs.declared.Answer.TheVariants as Answer
 use Rattle.drainage_record_form.specs.Rows.{Rows}
 use Rattle.drainage_record.specs.Read.{ReadRight}
 use Rattle.drainage_record.specs.declared.ReadAnswer.{ReadAnswer}
-use Rattle.drainage_record.specs.declared.ReadAnswer.TheVariants as ReadAnswer
 use Rattle.drainage_record.specs.declared.Header.{Header}
 use Rattle.drainage_report.specs.Quantified.{ResultRows, call_of, parts_of, parts_after, answer_to, results_after}
 
