@@ -1,22 +1,16 @@
 -- What the host's arrays hold after an answer, by its case. Assumes nothing.
 use Prim.Native.Nat.{ℕ}
-use mathlib.Core.Path.{◌≡◌, refl, sym, ap, ◌∙◌, subst}
+use mathlib.Core.Path.{◌≡◌, sym, ap, ◌∙◌, subst}
 use mathlib.Core.List.{List}
-use native.Mathlib.Omega.{arith}
-use denote.Enum.Declared.{tag_of}
+use Rattle.refusals.specs.declared.Refusal.{Refusal}
 use Rattle.figures.specs.declared.Figures.{Figures}
 use Rattle.accounts.specs.declared.Answer.{Answer}
-use Rattle.accounts.specs.declared.Answer.TheVariants as Answer
-use Rattle.accounts.specs.contracts.Answer as AnswerType
 use Rattle.sheet_text.specs.Write.{WriteRight}
 use Rattle.sheet_text.specs.declared.WriteAnswer.{WriteAnswer}
 use Rattle.sheet_text.specs.declared.ReadAnswer.{ReadAnswer}
-use Rattle.sheet_text.specs.declared.ReadAnswer.TheVariants as ReadAnswer
-use Rattle.sheet_text.specs.contracts.ReadAnswer as ReadAnswerType
 use Rattle.drainage_record.specs.declared.Header.{Header}
 use Rattle.drainage_record.specs.declared.ReadAnswer as RecordType
 use Rattle.drainage_record.specs.declared.ReadAnswer.TheVariants as RecordAnswer
-use Rattle.drainage_record.specs.contracts.ReadAnswer as RecordAnswerType
 use Rattle.cmm.specs.Figures.{amounts_of, balances_of}
 use Rattle.cmm.specs.Exported.{Arrays, given, arrays_after, arrays_of, headed, head_after}
 
@@ -28,17 +22,15 @@ pub accepted_held : (a : Answer) (f : Figures) (old new : Arrays) → a ≡ Answ
     → (new.amounts ≡ amounts_of f) × (new.balances ≡ balances_of f) → new ≡ arrays_after a old
 accepted_held a f old new is w = both_given f new w ∙ sym (ap (λ (x : Answer). arrays_after x old) is)
 
-pub refused_held : (a : Answer) (old : Arrays) → tag_of AnswerType.the_type a ≡ 1 → old ≡ arrays_after a old
-refused_held (Answer.Accepted f) old tag = absurd (omega (arith, tag))
-refused_held (Answer.Refused r) old tag = refl
+pub refused_held : (a : Answer) (r : Refusal) (old : Arrays) → a ≡ Answer.Refused r → old ≡ arrays_after a old
+refused_held a r old is = sym (ap (λ (x : Answer). arrays_after x old) is)
 
 pub sheet_held : (a : ReadAnswer) (f : Figures) (old new : Arrays) → a ≡ ReadAnswer.Sheet f
     → (new.amounts ≡ amounts_of f) × (new.balances ≡ balances_of f) → new ≡ arrays_of a old
 sheet_held a f old new is w = both_given f new w ∙ sym (ap (λ (x : ReadAnswer). arrays_of x old) is)
 
-pub no_sheet_held : (a : ReadAnswer) (old : Arrays) → tag_of ReadAnswerType.the_type a ≡ 1 → old ≡ arrays_of a old
-no_sheet_held (ReadAnswer.Sheet f) old tag = absurd (omega (arith, tag))
-no_sheet_held (ReadAnswer.Refused r) old tag = refl
+pub no_sheet_held : (a : ReadAnswer) (r : Refusal) (old : Arrays) → a ≡ ReadAnswer.Refused r → old ≡ arrays_of a old
+no_sheet_held a r old is = sym (ap (λ (x : ReadAnswer). arrays_of x old) is)
 
 pub same_written : (f g : Figures) (old new : List ℕ) (a : WriteAnswer) → f ≡ g → WriteRight f old new a → WriteRight g old new a
 same_written f g old new a e w = subst (λ (h : Figures). WriteRight h old new a) e w
@@ -46,6 +38,5 @@ same_written f g old new a e w = subst (λ (h : Figures). WriteRight h old new a
 pub record_head : (a : RecordType.ReadAnswer) (h : Header) (old : List ℕ) → a ≡ RecordAnswer.Record h → headed h ≡ head_after a old
 record_head a h old is = sym (ap (λ (x : RecordType.ReadAnswer). head_after x old) is)
 
-pub no_record_head : (a : RecordType.ReadAnswer) (old : List ℕ) → tag_of RecordAnswerType.the_type a ≡ 1 → old ≡ head_after a old
-no_record_head (RecordAnswer.Record h) old tag = absurd (omega (arith, tag))
-no_record_head (RecordAnswer.Refused r) old tag = refl
+pub no_record_head : (a : RecordType.ReadAnswer) (r : Refusal) (old : List ℕ) → a ≡ RecordAnswer.Refused r → old ≡ head_after a old
+no_record_head a r old is = sym (ap (λ (x : RecordType.ReadAnswer). head_after x old) is)

@@ -5,17 +5,15 @@ use mathlib.Core.Path.{◌≡◌, sym, ◌∙◌}
 use mathlib.Core.List.{List}
 use native.Mathlib.Omega.{arith}
 use Rattle.refusals.specs.declared.Told.{Told}
-use Rattle.refusals.specs.Table.{told_of, never_eight, verdict_never_eight}
+use Rattle.refusals.specs.Table.{told_of}
+use Rattle.refusals.proofs.Retired.{never_eight, verdict_never_eight}
 use Rattle.figures.specs.declared.Figures.{Figures}
 use Rattle.accounts.specs.Sheet.{told_in}
 use Rattle.accounts.specs.declared.Answer.{Answer}
-use Rattle.accounts.specs.declared.Answer.TheVariants as Answer
 use Rattle.sheet_text.specs.Write as Write
 use Rattle.sheet_text.specs.Read as Read
 use Rattle.sheet_text.specs.declared.WriteAnswer.{WriteAnswer}
-use Rattle.sheet_text.specs.declared.WriteAnswer.TheVariants as WriteAnswer
 use Rattle.sheet_text.specs.declared.ReadAnswer.{ReadAnswer}
-use Rattle.sheet_text.specs.declared.ReadAnswer.TheVariants as ReadAnswer
 use Rattle.drainage_record_form.specs.Rows as Record
 use Rattle.drainage_record.specs.Read as Reader
 use Rattle.drainage_record.specs.declared.ReadAnswer as RecordType

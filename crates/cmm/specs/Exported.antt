@@ -9,7 +9,6 @@ use Rattle.drainage_devices.specs.Devices.{Results}
 use Rattle.accounts.specs.Sheet.{told_in}
 use Rattle.drainage.specs.Promise.{Settled}
 use Rattle.accounts.specs.declared.Answer.{Answer}
-use Rattle.accounts.specs.declared.Answer.TheVariants as Answer
 use Rattle.ventilation_judge.specs.Call as VentilationCall
 use Rattle.ventilation_devices.specs.Devices as VentilationResults
 use Rattle.ventilation.specs.Promise as VentilationPromise
@@ -18,9 +17,7 @@ use Rattle.sheet_text.specs.Write.{WriteRight}
 use Rattle.sheet_text.specs.Read as Read
 use Rattle.sheet_text.specs.Read.{ReadRight}
 use Rattle.sheet_text.specs.declared.WriteAnswer.{WriteAnswer}
-use Rattle.sheet_text.specs.declared.WriteAnswer.TheVariants as WriteAnswer
 use Rattle.sheet_text.specs.declared.ReadAnswer.{ReadAnswer}
-use Rattle.sheet_text.specs.declared.ReadAnswer.TheVariants as ReadAnswer
 use Rattle.drainage_record_form.specs.Rows as Record
 use Rattle.drainage_record.specs.Read as Reader
 use Rattle.drainage_record.specs.declared.Header.{Header}

@@ -1,5 +1,10 @@
 // The program: a record file on standard input, its sheet or the three lines of its refusal on standard output.
-use libc::{STDIN_FILENO, STDOUT_FILENO};
+#![tactic(auto)]
+
+ghost use Rattle.std.specs.Prelude.{◌≤◌, length, IfOk};
+
+use std::io;
+use std::io::{ErrorKind, Print, Read};
 
 // Longer than any record file that 2,976 entries can hold, so that its first bytes decide every longer input (`report_cut`, drainage_report/proofs/Settled.antt).
 const TEXT: usize = 217600;
@@ -11,9 +16,31 @@ fn first(t: &[u8], n: usize) -> &[u8] {
     if n <= t.len() { &t[..n] } else { t }
 }
 
+// Fills a text from what is read, until it is full or nothing more comes: how many bytes it got.
+fn read_full<R: Read>(input: &mut R, text: &mut [u8]) -> io::Result<usize>
+    ensures { IfOk result (λ n. n ≤ length text.new) }
+{
+    let mut n = 0;
+    for _ in 0..u64::MAX {
+        if n >= text.len() {
+            break;
+        }
+        match input.read(&mut text[n..]) {
+            Ok(0) => break,
+            Ok(more) => n += more,
+            Err(e) => {
+                if e.kind() != ErrorKind::Interrupted {
+                    return Err(e);
+                }
+            }
+        }
+    }
+    Ok(n)
+}
+
 // The text is lent as an array, since as a slice its length would be counted out.
-fn run(text: &mut [u8; TEXT]) {
-    let n = io::read_full(STDIN_FILENO, text);
+fn run<R: Read, P: Print>(input: &mut R, output: &P, text: &mut [u8; TEXT]) -> io::Result<()> {
+    let n = read_full(input, text)?;
     let mut flow = [0u16; ENTRIES];
     let mut content = [0u16; ENTRIES];
     let mut temp = [0i16; ENTRIES];
@@ -35,10 +62,11 @@ fn run(text: &mut [u8; TEXT]) {
         &mut content_used,
         &mut out,
     );
-    io::write_all(STDOUT_FILENO, first(&out, k));
+    output.write_all(first(&out, k))
 }
 
-fn main() {
+fn main(rt: HostRuntime) -> io::Result<()> {
     let mut text = [0u8; TEXT];
-    run(&mut text);
+    let mut input = rt.stdin();
+    run(&mut input, &rt, &mut text)
 }
