@@ -1,6 +1,6 @@
 /* cmm.h: destroyed coal-mine methane quantified by Quebec Protocol 4, as C functions. C99, x86-64 Linux, no C library needed but memset.
  *
- * Link target/staticlib/libcmm.a, which `rt staticlib cmm` makes (host/build does it, and builds a program with it).
+ * Link target/staticlib/libcmm.a, which `rt lib` makes of crates/cmm (host/build does it, and builds a program with it).
  * What each function does is proved for every call that keeps to what is asked of the host: crates/cmm/src/lib.rt has the
  * contracts, crates/cmm/specs/ their words. This header is not part of any proof.
  *
@@ -14,7 +14,7 @@
  * What the host gets
  * - No function allocates, does input or output, keeps anything between two calls, or calls anything outside the archive but memset.
  *   Two threads may call at the same time, with arrays of their own. Every call ends.
- * - Each writes what is said of it below and no other byte. By its frames cmm_report takes 12.4 KB of stack,
+ * - Each writes what is said of it below and no other byte. By its frames cmm_report takes 11.7 KB of stack,
  *   whatever the lengths.
  *
  * Refusals. Each function but cmm_version and cmm_report gives the number, 0 where nothing is refused; cmm_report writes it as
