@@ -1,14 +1,10 @@
 -- The sheet's figures (rule 11.3): N and D, counts of device-intervals, sums over devices, and the fuel once.
 -- Assumes nothing.
 use Rattle.std.specs.Prelude.{ℕ, length, get_or, ℤ}
-use Rattle.refusals.specs.declared.Told.{Told}
-use Rattle.refusals.specs.Table.{told_of, nothing}
 use Rattle.columns.specs.Series.{Fuel}
 use Rattle.balance.specs.Balance.{fuel_in_mg, equation1, tonnes_of, credits_of}
 use Rattle.figures.specs.declared.Figures.{Figures}
 use Rattle.accounts.specs.declared.Totals.{Totals}
-use Rattle.accounts.specs.declared.Answer.{Answer}
-use Rattle.accounts.specs.declared.Answer.TheVariants.{Accepted, Refused}
 
 -- rule 9.10: fuel mg, over all fuel lines and once
 unfoldable pub fuel_sum : Fuel → ℕ
@@ -36,8 +32,3 @@ figures_from intervals devices t fuel =
       tonnes = tonnes_of reduction;
       credits = credits_of (tonnes_of reduction);
     }
-
--- the number, the device and the place of an answer (rule 5.4), three zeros where nothing is refused (rule 5.7)
-abbrev pub told_in : Answer → Told
-told_in (Accepted f) = nothing
-told_in (Refused r) = told_of r

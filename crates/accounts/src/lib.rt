@@ -5,35 +5,16 @@
 ghost use Rattle.std.specs.Prelude.{◌+◌, ◌*◌, ◌≤◌, ◌<◌, ◌≡◌, length};
 ghost use Rattle.rows.specs.Rows.{put};
 ghost use Rattle.protocol.specs.Ranges.{devices_most};
-ghost use Rattle.columns.specs.Series.{Burnable, fuel_now, fuel_at};
+ghost use Rattle.columns.specs.Series.{Burnable};
+ghost use Rattle.columns.specs.Lent.{fuel_in};
 ghost use Rattle.balance.specs.Balance.{Moderate};
 ghost use Rattle.accounts.specs.Account.{outcome_kinds, account_size, numbers_of};
 ghost use Rattle.accounts.specs.Totals.{no_totals};
-ghost use Rattle.accounts.specs.Sheet.{fuel_sum, figures_from, told_in};
+ghost use Rattle.accounts.specs.Sheet.{fuel_sum, figures_from};
 ghost use Rattle.accounts.specs.Private.{added, Modest, Room};
 
+use columns::Fuel;
 use figures::Figures;
-use refusals::{Refusal, Told, Verdict};
-
-// What a quantification answers: a sheet's figures, or the first refusal.
-#[derive(Clone, Copy)]
-pub enum Answer {
-    Accepted(Figures),
-    Refused(Refusal),
-}
-
-impl Answer {
-    // The number, the device and the place of an answer, three zeros where nothing is refused. Ruled out: the device for the
-    // place; 6 for 5.
-    pub fn told(self) -> Told
-        ensures { result ≡ told_in self }
-    {
-        match self {
-            Answer::Accepted(_) => Verdict::Clean.told(),
-            Answer::Refused(r) => r.told(),
-        }
-    }
-}
 
 // How many outcomes there are.
 pub const OUTCOMES: usize = 10;
@@ -122,15 +103,13 @@ pub fn store(d: usize, a: Account, accounts: &mut [u64])
 }
 
 // Ruled out: the last line left out; factors added in place of products.
-pub fn fuel(quantity: &[u32], factor: &[u32]) -> u64
-    requires { Burnable (fuel_now quantity factor) }
-    ensures { (result ≡ fuel_sum (fuel_at quantity factor)) × (result ≤ 256000000000000000) }
+pub fn fuel(fuel: &Fuel<'_>) -> u64
+    requires { Burnable (fuel_in fuel.now) }
+    ensures { (result ≡ fuel_sum (fuel_in fuel.now)) × (result ≤ 256000000000000000) }
 {
     let mut sum: u64 = 0;
-    let mut i = 0;
-    while i < quantity.len() {
-        sum = sum + (quantity[i] as u64) * (factor[i] as u64);
-        i += 1;
+    for i in 0..fuel.quantity.len() {
+        sum += (fuel.quantity[i] as u64) * (fuel.factor[i] as u64);
     }
     sum
 }

@@ -1,2 +1,3 @@
 pub mod Series
 pub mod Streams
+pub mod Lent

@@ -1,12 +1,10 @@
 -- What was once refused and is given up.
 -- Assumes nothing.
-use Rattle.std.proofs.Common.{ℕ, ◌≡◌, refl, Bool, true, false, sym, ap, ◌∙◌, arith}
+use Rattle.std.proofs.Common.{ℕ, ◌≡◌, refl, true, false, sym, ap, ◌∙◌, arith, Result, Ok, Err}
 use Rattle.refusals.specs.declared.Refusal.{Refusal}
-use Rattle.refusals.specs.declared.Verdict.{Verdict}
-use Rattle.refusals.specs.declared.Verdict.TheVariants.{Clean, Refused}
 use Rattle.refusals.specs.Table.{told_of, told_by, all, lacks, listed}
 
--- rule 4.8: 8, once any wrong reading's, is given up: no refusal has it, and so no verdict
+-- rule 4.8: 8, once any wrong reading's, is given up: no refusal has it, and so no answer
 eight_lacks : lacks 8 all ≡ true
 unfolding lacks
 eight_lacks = refl
@@ -18,6 +16,6 @@ never_eight r e =
     let z : ◌≡◌ {A = ℕ} 0 1 = cc in
     omega arith
 
-pub verdict_never_eight : (v : Verdict) → (told_by v).number ≡ 8 → ⊥
-verdict_never_eight Clean e = omega arith
-verdict_never_eight (Refused r) e = never_eight r e
+pub verdict_never_eight : {A : Type 0} (v : Result A Refusal) → (told_by v).number ≡ 8 → ⊥
+verdict_never_eight (Ok given) e = omega arith
+verdict_never_eight (Err r) e = never_eight r e

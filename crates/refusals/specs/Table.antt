@@ -1,14 +1,12 @@
 -- The table of refusals: each one's number, and the device and the place that it is given with. No other file has a number.
 -- The order of test is not the order of numbers: each call's own list of steps has it.
 -- Assumes nothing.
-use Rattle.std.specs.Prelude.{ℕ, ◌≡◌, refl, Bool, true, false, List, [], ◌∷◌, eqb}
+use Rattle.std.specs.Prelude.{ℕ, ◌≡◌, refl, Bool, true, false, List, [], ◌∷◌, eqb, Result, Ok, Err}
 use Rattle.refusals.specs.declared.Column.{Column}
 use Rattle.refusals.specs.declared.Column.TheVariants.{Flow, Content, Temp, Press, Status}
 use Rattle.refusals.specs.declared.Refusal.{Refusal}
 use Rattle.refusals.specs.declared.Refusal.TheVariants.{Intervals, Devices, Lengths, Mine, Kind, Misplaced, Check, Fuel, NoSheet, ShortBuffer}
 use Rattle.refusals.specs.declared.Refusal.TheVariants.{Line, Room, ExportLength, SampleQuality, SampleReading, Reading, Inlet, Exhaust}
-use Rattle.refusals.specs.declared.Verdict.{Verdict}
-use Rattle.refusals.specs.declared.Verdict.TheVariants.{Clean, Refused}
 use Rattle.refusals.specs.declared.Told.{Told}
 
 abbrev pub told : ℕ → ℕ → ℕ → Told
@@ -46,9 +44,10 @@ told_of (Exhaust device interval) = told 23 device interval
 abbrev pub nothing : Told
 nothing = told 0 0 0
 
-abbrev pub told_by : Verdict → Told
-told_by Clean = nothing
-told_by (Refused r) = told_of r
+-- what is told of an answer: three zeros where it gives something (rule 5.7), else those of its refusal (rule 5.4)
+abbrev pub told_by : {A : Type 0} → Result A Refusal → Told
+told_by (Ok given) = nothing
+told_by (Err r) = told_of r
 
 -- every refusal, in the table's order; what a refusal is given with does not matter here
 abbrev pub all : List Refusal

@@ -37,13 +37,6 @@ pub enum Refusal {
     Exhaust(usize, usize),
 }
 
-// Nothing is wrong, or the first refusal.
-#[derive(Clone, Copy)]
-pub enum Verdict {
-    Clean,
-    Refused(Refusal),
-}
-
 // A refusal as it is given: its number, and the device and the place of the first offender.
 #[derive(Clone, Copy)]
 pub struct Told {
@@ -64,12 +57,12 @@ impl Told {
     }
 }
 
-impl Column {
-    // Ruled out: one number for all; the pressure's for the temperature's.
-    pub fn number(self) -> u64
-        ensures { result ≡ reading_number self }
-    {
-        match self {
+// The number of a wrong reading's refusal. Ruled out: one number for all; the pressure's for the temperature's.
+impl From<Column> for u64 {
+    ghost from_gives = { λ column n. n ≡ reading_number column };
+
+    fn from(column: Column) -> u64 {
+        match column {
             Column::Flow => 17,
             Column::Content => 18,
             Column::Temp => 19,
@@ -79,12 +72,12 @@ impl Column {
     }
 }
 
-impl Refusal {
-    // Ruled out: 6 for 5; the device given as the place.
-    pub fn told(self) -> Told
-        ensures { result ≡ told_of self }
-    {
-        match self {
+// Ruled out: 6 for 5; the device given as the place.
+impl From<Refusal> for Told {
+    ghost from_gives = { λ refusal t. t ≡ told_of refusal };
+
+    fn from(refusal: Refusal) -> Told {
+        match refusal {
             Refusal::Intervals => Told::at(1, 0, 0),
             Refusal::Devices => Told::at(2, 0, 0),
             Refusal::Lengths => Told::at(3, 0, 0),
@@ -101,7 +94,7 @@ impl Refusal {
             Refusal::SampleQuality(sample) => Told::at(15, 0, sample),
             Refusal::SampleReading(sample) => Told::at(16, 0, sample),
             Refusal::Reading(column, device, interval) => Told::at(
-                column.number(),
+                u64::from(column),
                 device,
                 interval,
             ),
@@ -111,14 +104,15 @@ impl Refusal {
     }
 }
 
-impl Verdict {
-    // Three zeros where nothing is refused. Ruled out: a number for a clean call; a refusal told as none.
-    pub fn told(self) -> Told
-        ensures { result ≡ told_by self }
-    {
-        match self {
-            Verdict::Clean => Told::at(0, 0, 0),
-            Verdict::Refused(r) => r.told(),
+// What is told of an answer, whatever it gives where nothing is refused: three zeros then. Ruled out: a number for a clean call; a
+// refusal told as none.
+impl<T: Copy> From<Result<T, Refusal>> for Told {
+    ghost from_gives = { λ answer t. t ≡ told_by answer };
+
+    fn from(answer: Result<T, Refusal>) -> Told {
+        match answer {
+            Ok(_) => Told::at(0, 0, 0),
+            Err(refusal) => Told::from(refusal),
         }
     }
 }
