@@ -46,60 +46,59 @@ pub struct Totals {
     pub uncombusted_mg: u64,
 }
 
-// Of no device. Ruled out: a sum that starts elsewhere than at 0.
-pub fn none() -> Totals
-    ensures { result ≡ no_totals }
-{
-    Totals {
-        counted: 0,
-        replaced: 0,
-        excluded: 0,
-        methane: 0,
-        destroyed: 0,
-        uncombusted: 0,
-        baseline_mg: 0,
-        co2_mg: 0,
-        uncombusted_mg: 0,
+impl Totals {
+    // Of no device. Ruled out: a sum that starts elsewhere than at 0.
+    pub fn none() -> Totals
+        ensures { result ≡ no_totals }
+    {
+        Totals {
+            counted: 0,
+            replaced: 0,
+            excluded: 0,
+            methane: 0,
+            destroyed: 0,
+            uncombusted: 0,
+            baseline_mg: 0,
+            co2_mg: 0,
+            uncombusted_mg: 0,
+        }
+    }
+
+    // One device more. Ruled out: CO2 rounded once over all devices; replaced intervals counted as excluded.
+    pub fn with(self, a: Account) -> Totals
+        requires { Room self × Modest a }
+        ensures { result ≡ added self a }
+    {
+        let times = a.outcomes;
+        let replaced = times[1] + times[2];
+        let excluded = times[3] + times[4] + times[5] + times[6] + times[7] + times[8] + times[9];
+        Totals {
+            counted: self.counted + (times[0] + times[1] + times[2]),
+            replaced: self.replaced + replaced,
+            excluded: self.excluded + excluded,
+            methane: self.methane + a.methane,
+            destroyed: self.destroyed + a.destroyed,
+            uncombusted: self.uncombusted + a.uncombusted,
+            baseline_mg: self.baseline_mg + balance::methane_mg(a.methane),
+            co2_mg: self.co2_mg + balance::carbon_dioxide_mg(a.destroyed),
+            uncombusted_mg: self.uncombusted_mg + balance::methane_mg(a.uncombusted),
+        }
     }
 }
 
-// Ruled out: CO2 rounded once over all devices; replaced intervals counted as excluded.
-pub fn add(t: Totals, a: Account) -> Totals
-    requires { Room t × Modest a }
-    ensures { result ≡ added t a }
-{
-    let times = a.outcomes;
-    let replaced = times[1] + times[2];
-    let excluded = times[3] + times[4] + times[5] + times[6] + times[7] + times[8] + times[9];
-    Totals {
-        counted: t.counted + (times[0] + times[1] + times[2]),
-        replaced: t.replaced + replaced,
-        excluded: t.excluded + excluded,
-        methane: t.methane + a.methane,
-        destroyed: t.destroyed + a.destroyed,
-        uncombusted: t.uncombusted + a.uncombusted,
-        baseline_mg: t.baseline_mg + balance::methane_mg(a.methane),
-        co2_mg: t.co2_mg + balance::carbon_dioxide_mg(a.destroyed),
-        uncombusted_mg: t.uncombusted_mg + balance::methane_mg(a.uncombusted),
+impl Account {
+    // Device d's account, in numbers, into its place. Ruled out: a neighbour's number changed; destroyed for uncombusted.
+    pub fn store(self, d: usize, accounts: &mut [u64])
+        requires { (d < devices_most) × (length self.outcomes ≡ outcome_kinds) × (length accounts.old ≡ devices_most * account_size) }
+        ensures { accounts.new ≡ put accounts.old (d * account_size) (d * account_size + account_size) (numbers_of self) }
+    {
+        let at = d * ACCOUNT;
+        let litres = at + OUTCOMES;
+        accounts[at..litres].copy_from_slice(&self.outcomes);
+        accounts[litres] = self.methane;
+        accounts[litres + 1] = self.destroyed;
+        accounts[litres + 2] = self.uncombusted;
     }
-}
-
-// Device d's account, in numbers, into its place. Ruled out: a neighbour's number changed; destroyed for uncombusted.
-pub fn store(d: usize, a: Account, accounts: &mut [u64])
-    requires { (d < devices_most) × (length a.outcomes ≡ outcome_kinds) × (length accounts.old ≡ devices_most * account_size) }
-    ensures { accounts.new ≡ put accounts.old (d * account_size) (d * account_size + account_size) (numbers_of a) }
-{
-    let at = d * ACCOUNT;
-    let times = a.outcomes;
-    let mut j = 0;
-    while j < OUTCOMES {
-        accounts[at + j] = times[j];
-        j += 1;
-    }
-    let litres = at + OUTCOMES;
-    accounts[litres] = a.methane;
-    accounts[litres + 1] = a.destroyed;
-    accounts[litres + 2] = a.uncombusted;
 }
 
 // Ruled out: the last line left out; factors added in place of products.

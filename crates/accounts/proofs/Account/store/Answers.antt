@@ -3,7 +3,7 @@ use native.Mathlib.Omega.{arith}
 use lib.Dec.{lit<}
 use Rattle.accounts.proofs.Storing.{storing_none, storing_more, storing_all, place_fits, litres_fits, inside, inside_1, inside_2}
 use Rattle.accounts.proofs.Storing.{still_long}
-use Rattle.accounts.proofs.store.Goals as goal
+use Rattle.accounts.proofs.Account.store.Goals as goal
 
 pub loop-j-init : goal.loop-j-init
 loop-j-init c = storing_none _ _ _ c.requires.0 c.requires.1 c.requires.2
