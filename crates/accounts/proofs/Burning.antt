@@ -35,14 +35,6 @@ module _ (f : Fuel) (sum i : ℕ) (v : Burning f sum i) where
   pub sum_room : sum ≤ 256000000000000000
   sum_room = subst (λ (s : ℕ). s ≤ 256000000000000000) (sym v.so_far) (sum_most f v.fuels i v.within)
 
-  pub burning_more : i < length f.quantity → Burning f (sum + line f i) (i + 1)
-  burning_more h =
-      record {
-        within = omega arith;
-        fuels = v.fuels;
-        so_far = ap (λ (s : ℕ). s + line f i) v.so_far ∙ ap (λ (m : ℕ). sum_to m (line f)) (sym (add-one i));
-      }
-
   pub burnt : length f.quantity ≤ i
       → (sum ≡ fuel_sum f) × (sum ≤ 256000000000000000)
   unfolding fuel_in_mg fuel_sum

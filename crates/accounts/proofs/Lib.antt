@@ -6,4 +6,3 @@ pub mod Counting
 pub mod Given
 pub mod Numbers
 pub mod Sheets
-pub mod Storing

@@ -93,11 +93,31 @@ impl Account {
         ensures { accounts.new ≡ put accounts.old (d * account_size) (d * account_size + account_size) (numbers_of self) }
     {
         let at = d * ACCOUNT;
-        let litres = at + OUTCOMES;
-        accounts[at..litres].copy_from_slice(&self.outcomes);
-        accounts[litres] = self.methane;
-        accounts[litres + 1] = self.destroyed;
-        accounts[litres + 2] = self.uncombusted;
+        let numbers = self.numbers();
+        accounts[at..at + ACCOUNT].copy_from_slice(&numbers);
+    }
+
+    // Its ten counts and three sums, one after the other.
+    fn numbers(self) -> [u64; ACCOUNT]
+        requires { length self.outcomes ≡ outcome_kinds }
+        ensures { result ≡ numbers_of self }
+    {
+        let o = self.outcomes;
+        [
+            o[0],
+            o[1],
+            o[2],
+            o[3],
+            o[4],
+            o[5],
+            o[6],
+            o[7],
+            o[8],
+            o[9],
+            self.methane,
+            self.destroyed,
+            self.uncombusted,
+        ]
     }
 }
 
