@@ -8,10 +8,11 @@ use native.Mathlib.Omega.{arith}
 use lib.IntN.{ℤ, pos, negsuc, ◌-ℤ◌, ◌*ℤ◌, nat_abs}
 use lib.Signed.{◌≤ℤ◌, shr_z, lt_z, non_neg}
 use lib.Dec.{T}
-use borrow.Author.Tests.{ltb-true}
+use borrow.Author.Rules.{rules}
 use mir.Syntax.{w64}
 use mir.Val.{SFits, Fits, to_z, of_z}
 use mir.Facts.{to_z-of_z, to_z_pos}
+use Rattle.core.specs.Int.{int_max}
 use Rattle.rows.specs.Rows.{sum_to}
 use Rattle.rows.proofs.Sums.{sum_to_ext, sum_to_add}
 use Rattle.protocol.specs.Kinds.{thousandths_of}
@@ -117,8 +118,8 @@ less_fits z n h l =
 pub below_back : (n : ℕ) → n ≤ 4611686018427387904 → to_z w64 (of_z w64 (negsuc 0 -ℤ to_z w64 n)) ≡ negsuc n
 below_back n h = to_z-of_z (less_fits (negsuc 0) n (omega arith) h) ∙ below_zero n (omega arith)
 
-pub quotient_most : (x : ℕ) → x ≤ 4611686018427387904 → x / tonne ≤ 4611686018427387904
-quotient_most x h = le_trans (div-le_self x tonne) h
+pub quotient_most : (x k : ℕ) → x ≤ 4611686018427387904 → x / k ≤ 4611686018427387904
+quotient_most x k h = le_trans (div-le_self x k) h
 
 pub reduction_up : (a b : ℕ) → b ≤ a → pos (a - b) ≡ reduction_of a b
 unfolding reduction_of
@@ -128,13 +129,10 @@ pub reduction_down : (a b : ℕ) → a < b → negsuc (b - a - 1) ≡ reduction_
 unfolding reduction_of
 reduction_down a b h = sym (sub_lt a b h ∙ ap negsuc (let e : b - suc a ≡ b - a - 1 = omega arith in e))
 
-pub tonnes_up : (a b : ℕ) → b ≤ a → pos ((a - b) / tonne) ≡ tonnes_of (reduction_of a b)
-unfolding tonnes_of
-tonnes_up a b h = ap (λ (z : ℤ). shr_z z tonne) (reduction_up a b h)
-
-pub tonnes_down : (a b : ℕ) → a < b → negsuc ((b - a - 1) / tonne) ≡ tonnes_of (reduction_of a b)
-unfolding tonnes_of
-tonnes_down a b h = ap (λ (z : ℤ). shr_z z tonne) (reduction_down a b h)
+-- in wholes of one mg a number is itself
+pub by_one : (z : ℤ) → shr_z z 1 ≡ z
+by_one (pos a) = ap pos (let e : a / 1 ≡ a = omega arith in e)
+by_one (negsuc a) = ap negsuc (let e : a / 1 ≡ a = omega arith in e)
 
 -- ---- what tonnes are
 
@@ -180,16 +178,8 @@ tonnes_floor z x = is_floor z tonne (let h : 0 < tonne = omega arith in h) x
 
 -- ---- credits
 
-pub credits_below : (z : ℤ) → lt_z z (pos 0) ≡ true → 0 ≡ credits_of z
+pub credits_is : (z : ℤ) → nat_abs (int_max z (pos 0)) ≡ credits_of z
 unfolding credits_of
-credits_below (pos n) e = let h : n < 0 = ltb-true n 0 e in absurd (let w : ⊥ = omega arith in w)
-credits_below (negsuc n) e = refl
-
-pub credits_above : (z : ℤ) → lt_z z (pos 0) ≡ false → nat_abs z ≡ credits_of z
-unfolding credits_of
-credits_above (pos n) e = refl
-credits_above (negsuc n) e = let w : ◌≡◌ {A = ℕ} 0 1 = cc in absurd (let v : ⊥ = omega arith in v)
-
-pub casts : (z : ℤ) → SFits w64 z → lt_z z (pos 0) ≡ false → T (non_neg z) × Fits w64 (nat_abs z)
-casts (pos n) f e = (tt, record { fits = let h = f.sfits in omega arith })
-casts (negsuc n) f e = let w : ◌≡◌ {A = ℕ} 0 1 = cc in absurd (let v : ⊥ = omega arith in v)
+credits_is (pos zero) = refl
+credits_is (pos (suc n)) = search rules
+credits_is (negsuc n) = refl

@@ -1,34 +1,10 @@
--- Rounded towards minus infinity, on both sides of zero.
-use Prim.Native.Nat.{◌-◌, ◌/◌}
-use native.Mathlib.Omega.{arith}
+-- In wholes of a tonne.
 use mathlib.Core.Path.{◌∙◌}
-use lib.IntN.{negsuc}
 use mir.Syntax.{w64}
-use mir.Facts.{to_z_pos}
-use Rattle.balance.proofs.Laws.{less_fits, below_back, tonnes_up, tonnes_down, quotient_most}
+use mir.Facts.{to_z-of_z}
+use Rattle.balance.specs.Balance.{tonnes_of}
 use Rattle.balance.proofs.tonnes.Goals as goal
 
-pub overflow_cast-result : goal.overflow_cast-result
-overflow_cast-result c = record { sfits = omega arith }
-
-pub overflow_sub-result-else-debit-credit : goal.overflow_sub-result-else-debit-credit
-overflow_sub-result-else-debit-credit c = omega arith
-
-pub overflow_sub-result-else-debit-credit-2 : goal.overflow_sub-result-else-debit-credit-2
-overflow_sub-result-else-debit-credit-2 c = omega arith
-
-pub overflow_cast-result-else-debit-credit : goal.overflow_cast-result-else-debit-credit
-overflow_cast-result-else-debit-credit c = record { sfits = omega arith }
-
-pub overflow_sub-result-else-debit-credit-3 : goal.overflow_sub-result-else-debit-credit-3
-overflow_sub-result-else-debit-credit-3 c =
-    less_fits (negsuc 0) ((c.args.debit - c.args.credit - 1) / 1000000000) (omega arith)
-    (quotient_most (c.args.debit - c.args.credit - 1) (omega arith))
-
-pub returns-then-debit-credit : goal.returns-then-debit-credit
-returns-then-debit-credit c = to_z_pos w64 (omega arith) ∙ tonnes_up c.args.credit c.args.debit c.if-debit-credit.true
-
-pub returns-else-debit-credit : goal.returns-else-debit-credit
-returns-else-debit-credit c =
-    below_back _ (quotient_most (c.args.debit - c.args.credit - 1) (omega arith)) ∙ tonnes_down c.args.credit
-    c.args.debit c.if-debit-credit.false
+pub returns : goal.returns
+unfolding tonnes_of
+returns c = to_z-of_z {w = w64} (record { sfits = c.whole.type_inv }) ∙ c.whole.ensures
