@@ -1,10 +1,8 @@
 -- Steps of the order of test, and what a list of them answers. Each call has its own list (rule 5.1); this holds of any.
 -- Assumes nothing.
-use Rattle.std.specs.Prelude.{ℕ, ◌<◌, ◌≡◌, Bool, false, List, [], ◌∷◌, ltb}
+use Rattle.std.specs.Prelude.{ℕ, ◌<◌, ◌≡◌, Bool, false, List, [], ◌∷◌, ltb, Result, Ok, Err}
 use Rattle.rows.specs.Rows.{pick, first, FirstOf}
 use Rattle.refusals.specs.declared.Refusal.{Refusal}
-use Rattle.refusals.specs.declared.Verdict.{Verdict}
-use Rattle.refusals.specs.declared.Verdict.TheVariants.{Clean, Refused}
 use Rattle.refusals.specs.declared.Told.{Told}
 use Rattle.refusals.specs.Table.{told_of, nothing}
 
@@ -18,10 +16,14 @@ pub record Step : Type 0 where
 abbrev pub offender : Step → ℕ
 offender s = first s.size s.bad
 
--- rules 5.2 and 5.3: the first step with a bad thing refuses by its first one, and clean is what no step refuses
-unfoldable pub verdict_of : List Step → Verdict
-verdict_of [] = Clean
-verdict_of (s ∷ ss) = pick (ltb (offender s) s.size) (Refused (s.refusal (offender s))) (verdict_of ss)
+-- rules 5.2 and 5.3: the first step with a bad thing refuses by its first one, and what no step refuses is answered with Ok
+unfoldable pub verdict_of : List Step → Result Unit Refusal
+verdict_of [] = Ok tt
+verdict_of (s ∷ ss) = pick (ltb (offender s) s.size) (Err (s.refusal (offender s))) (verdict_of ss)
+
+-- of one step alone
+abbrev pub step_verdict : Step → Result Unit Refusal
+step_verdict s = verdict_of (s ∷ [])
 
 -- ---- the same as facts, for a reader who doubts the computation
 
