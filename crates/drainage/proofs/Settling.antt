@@ -1,5 +1,6 @@
 -- From the verdict, the rows and the totals to what the call promises.
 -- Assumes nothing.
+use Rattle.std.proofs.Common.{Result, Ok, Err}
 use Prim.Native.Nat.{ℕ, ◌+◌, ◌*◌, ◌≤◌, ◌<◌}
 use mathlib.Core.Path.{◌≡◌, refl, sym, ap, ap₂, ◌∙◌, subst, subst₂}
 use mathlib.Core.Bool.{true}
@@ -12,12 +13,10 @@ use Rattle.rows.proofs.Sums.{sum_to_ext}
 use Rattle.protocol.specs.Ranges.{kelvin_of, content_most}
 use Rattle.volume.specs.Volume.{methane_litres}
 use Rattle.balance.specs.Balance.{baseline_all, carbon_dioxide_all, uncombusted_all, reduction_all, Moderate}
-use Rattle.accounts.specs.declared.Answer.{Answer}
-use Rattle.accounts.specs.declared.Answer.TheVariants.{Accepted, Refused}
 use Rattle.accounts.specs.declared.Totals.{Totals}
 use Rattle.accounts.specs.Account.{counted}
 use Rattle.accounts.specs.Totals.{counted_in, totals_over}
-use Rattle.accounts.specs.Sheet.{fuel_sum, figures_from, told_in}
+use Rattle.accounts.specs.Sheet.{fuel_sum, figures_from}
 use Rattle.accounts.specs.Accounted.{outcome_given, Accounted}
 use Rattle.accounts.proofs.Adding.{moderate}
 use Rattle.accounts.proofs.Answers.{same_figures, never}
@@ -33,8 +32,7 @@ use Rattle.drainage_devices.specs.Totals.{kind_in, litres_in, totals_of, AllWrit
 use Rattle.drainage_devices.proofs.Laws.{row_long, modest, counts}
 use Rattle.drainage_judge.specs.Call.{Call}
 use Rattle.refusals.specs.declared.Refusal.{Refusal}
-use Rattle.refusals.specs.declared.Verdict.{Verdict}
-use Rattle.refusals.specs.declared.Verdict.TheVariants.{Clean, Refused as Offended}
+use Rattle.refusals.specs.Table.{told_by}
 use Rattle.steps.specs.Step.{Tells}
 use Rattle.drainage_judge.specs.Order.{judged, steps_of}
 use Rattle.drainage_judge.proofs.Laws.{judged_clean, judged_refused}
@@ -139,35 +137,35 @@ module _ (c : Call) (before : Results) (x : Unrefused c) where
 -- ---- the call
 
 -- what is told of the answer, through the definition that gives it
-told_by_lem : (c : Call) (a : Answer) → a ≡ answer_by (judged c) c → Tells (steps_of c) (told_in a)
+told_by_lem : (c : Call) (a : Result Figures Refusal) → a ≡ answer_by (judged c) c → Tells (steps_of c) (told_by a)
 unfolding answer_by
 told_by_lem c a e =
     record {
-      clear = λ x. ap told_in (e ∙ ap (λ (v : Verdict). answer_by v c) (judged_clean c x));
-      offended = λ r x. ap told_in (e ∙ ap (λ (v : Verdict). answer_by v c) (judged_refused c r x));
+      clear = λ x. ap told_by (e ∙ ap (λ (v : Result Unit Refusal). answer_by v c) (judged_clean c x));
+      offended = λ r x. ap told_by (e ∙ ap (λ (v : Result Unit Refusal). answer_by v c) (judged_refused c r x));
     }
 
 -- refused: the answer is the refusal and nothing has changed
-pub settled_refused : (c : Call) (before : Results) (r : Refusal) → judged c ≡ Offended r → Settled c before before (Refused r)
+pub settled_refused : (c : Call) (before : Results) (r : Refusal) → judged c ≡ Err r → Settled c before before (Err r)
 unfolding answer_by results_by
 settled_refused c before r e =
     record {
-      answer = sym (ap (λ (v : Verdict). answer_by v c) e);
-      results = sym (ap (λ (v : Verdict). results_by v c before) e);
-      told = told_by_lem c (Refused r) (sym (ap (λ (v : Verdict). answer_by v c) e));
+      answer = sym (ap (λ (v : Result Unit Refusal). answer_by v c) e);
+      results = sym (ap (λ (v : Result Unit Refusal). results_by v c before) e);
+      told = told_by_lem c (Err r) (sym (ap (λ (v : Result Unit Refusal). answer_by v c) e));
       accounted = λ f q. never r f q;
       fair = λ f q. never r f q;
     }
 
 -- accepted: the figures, rows and accounts that the definitions give, and what holds of them
-pub settled_accepted : (c : Call) (before after : Results) → judged c ≡ Clean → after ≡ results_of (lent_in c) c.devices before
-    → Settled c before after (Accepted (figures_of c))
+pub settled_accepted : (c : Call) (before after : Results) → judged c ≡ Ok tt → after ≡ results_of (lent_in c) c.devices before
+    → Settled c before after (Ok (figures_of c))
 unfolding answer_by results_by
 settled_accepted c before now e w =
     record {
-      answer = sym (ap (λ (v : Verdict). answer_by v c) e);
-      results = w ∙ sym (ap (λ (v : Verdict). results_by v c before) e);
-      told = told_by_lem c (Accepted (figures_of c)) (sym (ap (λ (v : Verdict). answer_by v c) e));
+      answer = sym (ap (λ (v : Result Unit Refusal). answer_by v c) e);
+      results = w ∙ sym (ap (λ (v : Result Unit Refusal). results_by v c before) e);
+      told = told_by_lem c (Ok (figures_of c)) (sym (ap (λ (v : Result Unit Refusal). answer_by v c) e));
       accounted = λ f q.
           subst₂ (λ (s : Results) (g : Figures). Accounted c.intervals c.devices s.outcome s.accounts g) (sym w)
           (same_figures (figures_of c) f q) (accounted_call c before (unrefused c e));
@@ -181,17 +179,17 @@ pub settled_call : (c : Call) (before : Results) → Settled c before (results_b
 unfolding answer_by results_by
 settled_call c before = by (judged c) refl
   where
-    by : (v : Verdict) → judged c ≡ v → Settled c before (results_by v c before) (answer_by v c)
-    by Clean e = settled_accepted c before (results_of (lent_in c) c.devices before) e refl
-    by (Offended r) e = settled_refused c before r e
+    by : (v : Result Unit Refusal) → judged c ≡ v → Settled c before (results_by v c before) (answer_by v c)
+    by (Ok x) e = settled_accepted c before (results_of (lent_in c) c.devices before) e refl
+    by (Err r) e = settled_refused c before r e
 
-pub settled_made : (c : Call) (before after : Results) (t : Totals) (f : Figures) → judged c ≡ Clean
-    → AllWritten (lent_in c) c.devices before after t → f ≡ figures_of c → Settled c before after (Accepted f)
+pub settled_made : (c : Call) (before after : Results) (t : Totals) (f : Figures) → judged c ≡ Ok tt
+    → AllWritten (lent_in c) c.devices before after t → f ≡ figures_of c → Settled c before after (Ok f)
 settled_made c before after t f e w q =
-    subst (λ (g : Figures). Settled c before after (Accepted g)) (sym q) (settled_accepted c before after e w.results)
+    subst (λ (g : Figures). Settled c before after (Ok g)) (sym q) (settled_accepted c before after e w.results)
 
 -- rule 16.3: any two results that the promise permits are equal, in answer, rows and accounts
-pub settled_unique : (c : Call) (before one two : Results) (a b : Answer) → Settled c before one a → Settled c before two b → (a ≡ b) × (one ≡ two)
+pub settled_unique : (c : Call) (before one two : Results) (a b : Result Figures Refusal) → Settled c before one a → Settled c before two b → (a ≡ b) × (one ≡ two)
 settled_unique c before one two a b x y = (x.answer ∙ sym y.answer, x.results ∙ sym y.results)
 
 -- the sums fit

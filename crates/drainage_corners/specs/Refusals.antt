@@ -1,10 +1,9 @@
 -- Calls that are refused, or just not.
 -- Assumes nothing.
-use Rattle.std.specs.Prelude.{ℕ, ◌≡◌, refl, List, [], ◌∷◌, ◌++◌, pos, replicate}
+use Rattle.std.specs.Prelude.{ℕ, ◌≡◌, refl, List, [], ◌∷◌, ◌++◌, pos, replicate, Ok, Err}
 use Rattle.refusals.specs.declared.Refusal.{Refusal}
 use Rattle.refusals.specs.declared.Refusal.TheVariants.{Intervals, Devices, Lengths, Mine, Kind, Misplaced, Check, Fuel, Reading}
 use Rattle.refusals.specs.declared.Column.TheVariants.{Flow, Content, Temp, Press, Status}
-use Rattle.refusals.specs.declared.Verdict.TheVariants.{Clean, Refused}
 use Rattle.refusals.specs.Table.{told_of}
 use Rattle.steps.specs.Step.{verdict_of}
 use Rattle.steps.specs.Wrong.{wrong_check, wrong_thing, wrong_fuel}
@@ -29,22 +28,22 @@ unfolding numbers number
 numbers_are = refl
 
 -- rule 5.3: nothing is wrong with the calls that rows and figures are computed on, a check at N (rule 3.8) among them
-right : (judged worked ≡ Clean) × (judged injected ≡ Clean) × (judged (stopped (1 ∷ []) (1 ∷ [])) ≡ Clean) × (judged (gapped 16) ≡ Clean)
-    × (judged (checked 0 1 (pos 0) (pos 0)) ≡ Clean)
+right : (judged worked ≡ Ok tt) × (judged injected ≡ Ok tt) × (judged (stopped (1 ∷ []) (1 ∷ [])) ≡ Ok tt) × (judged (gapped 16) ≡ Ok tt)
+    × (judged (checked 0 1 (pos 0) (pos 0)) ≡ Ok tt)
 unfolding judged verdict_of intervals_step devices_step lengths_of lengths_step mine_step kinds_step misplaced_step wrong_check wrong_thing checks_step wrong_reading readings_step wrong_fuel fuels_step
 right = (refl, refl, refl, refl, refl)
 
 -- rule 4.7: a check past N. In the order of rule 5.1: a wrong count before its wrong entry; a wrong flow entry before a
 -- wrong count of CH4.
-checks : (judged (checked 0 2 (pos 0) (pos 0)) ≡ Refused (Check 0 1))
-    × (judged (counted (33 ∷ 0 ∷ []) (9 ∷ []) (pos 30000 ∷ [])) ≡ Refused (Check 0 32))
-    × (judged (counted (1 ∷ 33 ∷ []) (0 ∷ []) (pos 20001 ∷ [])) ≡ Refused (Check 0 0))
+checks : (judged (checked 0 2 (pos 0) (pos 0)) ≡ Err (Check 0 1))
+    × (judged (counted (33 ∷ 0 ∷ []) (9 ∷ []) (pos 30000 ∷ [])) ≡ Err (Check 0 32))
+    × (judged (counted (1 ∷ 33 ∷ []) (0 ∷ []) (pos 20001 ∷ [])) ≡ Err (Check 0 0))
 unfolding judged verdict_of intervals_step devices_step lengths_of lengths_step mine_step kinds_step misplaced_step wrong_check wrong_thing checks_step wrong_reading readings_step wrong_fuel fuels_step
 checks = (refl, refl, refl)
 
 -- 65 quantities beside 64 factors are 3 (rule 4.3), tested before 9 (rule 5.1); the last of 64 lines wrong is 9 at 63
 -- (rule 4.9).
-fuels : (judged (stopped (replicate 65 0) (replicate 64 0)) ≡ Refused Lengths)
-    × (judged (stopped (replicate 63 0 ++ (1000000001 ∷ [])) (replicate 64 0)) ≡ Refused (Fuel 63))
+fuels : (judged (stopped (replicate 65 0) (replicate 64 0)) ≡ Err Lengths)
+    × (judged (stopped (replicate 63 0 ++ (1000000001 ∷ [])) (replicate 64 0)) ≡ Err (Fuel 63))
 unfolding judged verdict_of intervals_step devices_step lengths_of lengths_step mine_step kinds_step misplaced_step wrong_check wrong_thing checks_step wrong_reading readings_step wrong_fuel fuels_step
 fuels = (refl, refl)

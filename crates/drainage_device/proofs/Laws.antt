@@ -27,7 +27,8 @@ use Rattle.volume.specs.Volume.{methane_litres, litres_most, Inside}
 use Rattle.balance.specs.Balance.{destroyed_of, uncombusted_of, device_most}
 use Rattle.drainage_outcomes.specs.Outcomes.{outcome_of, used_for, litres_for, held_outcome, entry_of, entry_at, sums_of, Held, Holds, ReadyAt}
 use Rattle.accounts.specs.Account.{outcome_kinds, counted}
-use Rattle.drainage_outcomes.specs.Outcomes.{Finished}
+use Rattle.drainage_outcomes.specs.Outcomes.{Finished, held_by}
+use Rattle.drainage_outcomes.specs.Rows.{Rows}
 use Rattle.drainage_outcomes.specs.declared.Sums.{Sums}
 use Rattle.drainage_outcomes.proofs.Laws.{outcome_of_ten, methane_most, counted_used}
 use Rattle.balance.proofs.Laws.{partition}
@@ -330,11 +331,11 @@ module _ (r : Records) (x : Right r) where
   device_most_lem = omega (arith, year_most)
 
   -- the last pass, and the account made of its sums
-  pub filled : (o f c : List ℕ) (s : Sums) (destroyed uncombusted : ℕ) → Finished (held_of r) o f c s
+  pub filled : (left : Rows) (s : Sums) (destroyed uncombusted : ℕ) → Finished (held_of r) left s
       → destroyed ≡ destroyed_of r.kind s.methane → uncombusted ≡ uncombusted_of r.kind s.methane
-      → Filled r o f c (record { outcomes = s.outcomes; methane = s.methane; destroyed = destroyed; uncombusted = uncombusted })
+      → Filled r left (record { outcomes = s.outcomes; methane = s.methane; destroyed = destroyed; uncombusted = uncombusted })
   unfolding held_of account_of
-  filled o f c s d u z p q =
+  filled left s d u z p q =
       record {
         outcome_built = z.outcome_built ∙ build_ext (intervals_of r) (λ i. (entry_at (held_of r) i).outcome) (outcome_at r) outcome_is;
         flow_built = z.flow_built ∙ build_ext (intervals_of r) (λ i. (entry_at (held_of r) i).flow) (flow_used_at r) flow_is;
@@ -351,9 +352,9 @@ module _ (r : Records) (x : Right r) where
       litres : s.methane ≡ methane_of r
       litres = ap (λ (t : Sums). t.methane) z.sums ∙ sums_methane
 
-  pub sums_most : (o f c : List ℕ) (s : Sums) → Finished (held_of r) o f c s → s.methane ≤ device_most
+  pub sums_most : (left : Rows) (s : Sums) → Finished (held_of r) left s → s.methane ≤ device_most
   unfolding held_of
-  sums_most o f c s z =
+  sums_most left s z =
       subst (λ (m : ℕ). m ≤ device_most) (sym (ap (λ (t : Sums). t.methane) z.sums ∙ sums_methane)) device_most_lem
 
   -- ---- for the crate above
@@ -384,20 +385,15 @@ module _ (r : Records) (x : Right r) where
 pub low_weaken : (reading : List ℕ) (b c : ℕ) → b ≤ c → Low reading b → Low reading c
 low_weaken reading b c l x = record { low = λ i e. le_trans (x.low i e) l }
 
--- a device's rows with these held
-abbrev pub holding : Records → List ℕ → List ℕ → Held
-holding r f c =
-    record { series = r.series; held_flow = f; held_content = c }
-
--- the two series as `fill_series` leaves them: flow's with its own instrument, CH4's with its own
-pub record Filling (r : Records) (f c : List ℕ) : Type 0 where
-  pub flow_filled : f ≡ build (length r.series.flow)
+-- the two series' rows as `fill_series` leaves them: flow's with its own instrument, CH4's with its own
+pub record Filling (r : Records) (b : Rows) : Type 0 where
+  pub flow_filled : b.flow ≡ build (length r.series.flow)
       (filled_at r.series.flow (build (length r.series.flow) (corrected_at (instrument_of r 0) r.series.flow)))
-  pub content_filled : c ≡ build (length r.series.content)
+  pub content_filled : b.content ≡ build (length r.series.content)
       (filled_at r.series.content (build (length r.series.content) (corrected_at (instrument_of r 1) r.series.content)))
 
-module _ (r : Records) (x : Right r) (f c : List ℕ) (y : Filling r f c) where
-  held_is : held_of r ≡ holding r f c
+module _ (r : Records) (x : Right r) (b : Rows) (y : Filling r b) where
+  held_is : held_of r ≡ held_by r.series b
   unfolding held_of corrected_flow corrected_content
   held_is k =
       record {
@@ -408,21 +404,27 @@ module _ (r : Records) (x : Right r) (f c : List ℕ) (y : Filling r f c) where
             ∙ ap (λ (m : ℕ). build m (filled_at r.series.content (build m (corrected_at (instrument_of r 1) r.series.content)))) x.long.content) k;
       }
 
-  pub ready_held : ReadyAt (holding r f c) (intervals_of r)
+  pub ready_held : ReadyAt (held_by r.series b) (intervals_of r)
   ready_held = subst (λ (h : Held). ReadyAt h (intervals_of r)) held_is (ready r x)
 
-  module _ (o g d : List ℕ) (s : Sums) (z : Finished (holding r f c) o g d s) where
-    settled : Finished (held_of r) o g d s
-    settled = subst (λ (h : Held). Finished h o g d s) (sym held_is) z
+  module _ (left : Rows) (s : Sums) (z : Finished (held_by r.series b) left s) where
+    settled : Finished (held_of r) left s
+    settled = subst (λ (h : Held). Finished h left s) (sym held_is) z
 
     pub sums_held : s.methane ≤ device_most
-    sums_held = sums_most r x o g d s settled
+    sums_held = sums_most r x left s settled
 
     pub filled_held : (destroyed uncombusted : ℕ) → destroyed ≡ destroyed_of r.kind s.methane → uncombusted ≡ uncombusted_of r.kind s.methane
-        → Filled r o g d (record { outcomes = s.outcomes; methane = s.methane; destroyed = destroyed; uncombusted = uncombusted })
-    filled_held a b p q = filled r x o g d s a b settled p q
+        → Filled r left (record { outcomes = s.outcomes; methane = s.methane; destroyed = destroyed; uncombusted = uncombusted })
+    filled_held a u p q = filled r x left s a u settled p q
 
 -- the contract permits one result only
-pub filled_unique : (r : Records) (o f c p g d : List ℕ) (a b : Account) → Filled r o f c a → Filled r p g d b → (o ≡ p) × (f ≡ g) × (c ≡ d) × (a ≡ b)
-filled_unique r o f c p g d a b x y =
-    (x.outcome_built ∙ sym y.outcome_built, x.flow_built ∙ sym y.flow_built, x.content_built ∙ sym y.content_built, x.account ∙ sym y.account)
+pub filled_unique : (r : Records) (s t : Rows) (a b : Account) → Filled r s a → Filled r t b → (s ≡ t) × (a ≡ b)
+filled_unique r s t a b x y = (
+  λ i. record {
+    outcome = (x.outcome_built ∙ sym y.outcome_built) i;
+    flow = (x.flow_built ∙ sym y.flow_built) i;
+    content = (x.content_built ∙ sym y.content_built) i;
+  },
+  x.account ∙ sym y.account,
+)

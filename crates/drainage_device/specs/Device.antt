@@ -8,6 +8,7 @@ use Rattle.columns.specs.Series.{Series, Checks, Long, ChecksLong, InRange}
 use Rattle.drainage_drift.specs.Drift.{Instrument, corrected_at, Ordered}
 use Rattle.drainage_runs.specs.Runs.{missing_at}
 use Rattle.drainage_gaps.specs.Gaps.{Replaced, replacement_at}
+use Rattle.drainage_outcomes.specs.Rows.{Rows}
 use Rattle.drainage_outcomes.specs.Outcomes.{outcome_of, used_for, litres_for}
 use Rattle.accounts.specs.Account.{outcome_kinds}
 use Rattle.balance.specs.Balance.{destroyed_of, uncombusted_of}
@@ -103,8 +104,8 @@ pub record Right (r : Records) : Type 0 where
   pub readings_in_range : InRange r.series (intervals_of r)
 
 -- the three rows and the account that the definitions build
-pub record Filled (r : Records) (outcome_row flow_row content_row : List ℕ) (a : Account) : Type 0 where
-  pub outcome_built : outcome_row ≡ build (intervals_of r) (outcome_at r)
-  pub flow_built : flow_row ≡ build (intervals_of r) (flow_used_at r)
-  pub content_built : content_row ≡ build (intervals_of r) (content_used_at r)
+pub record Filled (r : Records) (left : Rows) (a : Account) : Type 0 where
+  pub outcome_built : left.outcome ≡ build (intervals_of r) (outcome_at r)
+  pub flow_built : left.flow ≡ build (intervals_of r) (flow_used_at r)
+  pub content_built : left.content ≡ build (intervals_of r) (content_used_at r)
   pub account : a ≡ account_of r

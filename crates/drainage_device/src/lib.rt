@@ -1,89 +1,89 @@
 // One device's row, in place and in linear time: drift, gaps, then one last pass.
 #![tactic(auto)]
 
-ghost use Rattle.std.specs.Prelude.{ℕ, ◌+◌, ◌*◌, ◌≤◌, ◌<◌, ◌≡◌, false, length, get_or};
+ghost use Rattle.std.specs.Prelude.{ℕ, ◌≤◌, ◌<◌, ◌≡◌, length};
 ghost use Rattle.rows.specs.Rows.{build};
-ghost use Rattle.protocol.specs.Ranges.{intervals_most, mark, flow_most};
-ghost use Rattle.columns.specs.Series.{series_now, checks_now, series_at, checks_at};
+ghost use Rattle.protocol.specs.Ranges.{intervals_most, flow_most};
+ghost use Rattle.columns.specs.Series.{ChecksLong};
 ghost use Rattle.drainage_drift.specs.Drift.{Ordered, corrected_at};
-ghost use Rattle.drainage_runs.specs.Runs.{missing_at};
+ghost use Rattle.drainage_drift.specs.Lent.{instrument_in};
 ghost use Rattle.drainage_gaps.specs.Private.{filled_at};
-ghost use Rattle.drainage_device.specs.Device.{Right, Filled, Low};
+ghost use Rattle.drainage_outcomes.specs.Rows.{RowsLong, rows_of};
+ghost use Rattle.drainage_device.specs.Device.{instrument_of, Right, Filled, Low};
+ghost use Rattle.drainage_device.specs.Lent.{records_in};
 
 use accounts::Account;
-use protocol::{CHECKS, DEVICE_CHECKS};
+use columns::{Checks, Series};
+use drainage_drift::Instrument;
+use drainage_outcomes::{Rows, Sums};
+use protocol::CHECKS;
+
+// One device's records: its kind, its rows of the five series, and its checks.
+#[derive(Clone, Copy)]
+pub struct Records<'a> {
+    pub kind: u32,
+    pub series: Series<'a>,
+    pub checks: Checks<'a>,
+}
+
+impl<'a> Records<'a> {
+    // The checks of instrument g, flow 0 and CH4 1. Ruled out: the other instrument's count, positions or drifts.
+    #[tactic(auto, unfolding(crate::specs::Device::instrument_of))]
+    fn instrument(&self, g: usize) -> Instrument<'a>
+        requires { ChecksLong (records_in self.now).checks 1 × (g < 2) }
+        ensures { instrument_in result ≡ instrument_of (records_in self.now) g }
+    {
+        let p = CHECKS * g;
+        let q = p + CHECKS;
+        Instrument {
+            count: self.checks.counts[g],
+            positions: &self.checks.positions[p..q],
+            drifts: &self.checks.drifts[p..q],
+        }
+    }
+}
 
 // One series: drift taken out, then each gap replaced. Ruled out: gaps replaced before drift is corrected; drift taken out
 // of a replacement.
-fn fill_series(reading: &[u16], count: u32, positions: &[u32], drifts: &[i32], used: &mut [u16])
-    requires { Ordered (record { count = count; positions = positions.now; drifts = drifts.now }) (length reading.now)
+fn fill_series(reading: &[u16], instrument: &Instrument<'_>, used: &mut [u16])
+    requires { Ordered (instrument_in instrument.now) (length reading.now)
         × (length used.old ≡ length reading.now) × (length reading.now ≤ intervals_most) × Low reading.now flow_most }
     ensures { used.new
         ≡ build (length reading.now)
         (filled_at reading.now
         (build (length reading.now)
-        (corrected_at (record { count = count; positions = positions.now; drifts = drifts.now })
-        reading.now))) }
+        (corrected_at (instrument_in instrument.now) reading.now))) }
 {
-    drainage_drift::correct(reading, count, positions, drifts, used);
+    drainage_drift::correct(reading, instrument, used);
     drainage_gaps::fill_gaps(reading, used);
 }
 
 // The three rows of one device, and its account. Ruled out: a row left as it was; CH4's checks used for flow.
+// The rows are three parameters: of parts that are lent inside a `Rows` the check knows nothing after the call.
 pub fn fill_row(
-    kind: u32,
-    flow: &[u16],
-    content: &[u16],
-    temp: &[i16],
-    press: &[u32],
-    status: &[u8],
-    counts: &[u32],
-    positions: &[u32],
-    drifts: &[i32],
+    records: &Records<'_>,
     outcome: &mut [u8],
-    flow_used: &mut [u16],
-    content_used: &mut [u16],
+    flow: &mut [u16],
+    content: &mut [u16],
 ) -> Account
-    requires { Right
-        (record { kind = kind; series = series_now flow content temp press status; checks = checks_now counts positions drifts })
-        × (length outcome.old ≡ length flow.now) × (length flow_used.old ≡ length flow.now)
-        × (length content_used.old ≡ length flow.now) }
-    ensures { Filled
-        (record { kind = kind; series = series_at flow content temp press status; checks = checks_at counts positions drifts })
-        outcome.new flow_used.new content_used.new result }
+    requires { Right (records_in records.now)
+        × RowsLong (rows_of outcome.old flow.old content.old) (length records.now.series.flow.now) }
+    ensures { Filled (records_in records.now) (rows_of outcome.new flow.new content.new) result }
 {
-    fill_series(
-        flow,
-        counts[0],
-        &positions[0..CHECKS],
-        &drifts[0..CHECKS],
-        flow_used,
+    fill_series(records.series.flow, &records.instrument(0), flow);
+    fill_series(records.series.content, &records.instrument(1), content);
+    let Sums { outcomes, methane } = drainage_outcomes::finish(
+        &records.series,
+        Rows {
+            outcome,
+            flow,
+            content,
+        },
     );
-    fill_series(
-        content,
-        counts[1],
-        &positions[CHECKS..DEVICE_CHECKS],
-        &drifts[CHECKS..DEVICE_CHECKS],
-        content_used,
-    );
-    let s = drainage_outcomes::finish(
-        flow,
-        content,
-        temp,
-        press,
-        status,
-        outcome,
-        flow_used,
-        content_used,
-    );
-    let outcomes = s.outcomes;
-    let methane = s.methane;
-    let destroyed = balance::destroyed(kind, methane);
-    let uncombusted = balance::uncombusted(kind, methane);
     Account {
         outcomes,
         methane,
-        destroyed,
-        uncombusted,
+        destroyed: balance::destroyed(records.kind, methane),
+        uncombusted: balance::uncombusted(records.kind, methane),
     }
 }

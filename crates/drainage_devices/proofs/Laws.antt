@@ -3,13 +3,10 @@
 use Prim.Native.Nat.{ℕ, ◌+◌, ◌*◌, ◌≤◌, ◌<◌}
 use mathlib.Core.Path.{◌≡◌, sym, ap, ◌∙◌, subst}
 use mathlib.Core.List.{List}
-use native.Mathlib.Nat.{le_trans, add-sub_cancel_left}
-use native.Mathlib.Omega.{arith}
-use mir.Syntax.{w64}
-use mir.Val.{Fits}
+use native.Mathlib.Nat.{le_trans}
 use lib.ListN.{length}
 use Rattle.rows.specs.Rows.{build, count_of, put}
-use Rattle.rows.proofs.Laws.{length-build, length-put}
+use Rattle.rows.proofs.Laws.{length-build}
 use Rattle.columns.specs.Series.{row_of}
 use Rattle.columns.proofs.Laws as Series
 use Rattle.columns.proofs.Laws.{part_end, scaled}
@@ -20,6 +17,7 @@ use Rattle.accounts.specs.Account.{outcome_kinds}
 use Rattle.accounts.specs.Private.{Modest}
 use Rattle.accounts.proofs.Given.{Counts}
 use Rattle.accounts.proofs.Numbers.{built_most}
+use Rattle.drainage_outcomes.specs.Rows.{Rows, rows_of, RowsLong}
 use Rattle.drainage_device.specs.Device.{Records, intervals_of, outcome_at, flow_used_at, content_used_at, methane_of, account_of, Right, Filled}
 use Rattle.drainage_device.proofs.Laws.{device_most_lem, outcome_few}
 use Rattle.drainage_devices.specs.Devices.{Lent, records_of, account_in, outcome_part, flow_part, content_part, Sound}
@@ -74,94 +72,33 @@ module _ (l : Lent) (devices : ℕ) (x : Sound l devices) where
         shares = λ d h. account_shares (records_of l d);
       }
 
--- ---- device d's parts of all rows: where they begin and end, in entries and in bytes
-
-pub record Places (l : Lent) (d : ℕ) : Type 0 where
-  pub kind_in_lem : d < length l.kinds
-  pub kind_fits : Fits w64 (d * 4)
-  pub counts_fit : Fits w64 (d * 2)
-  pub counts_end_fits : Fits w64 (d * 2 + 2)
-  pub counts_bytes : Fits w64 (d * 2 * 4)
-  pub counts_up : d * 2 ≤ d * 2 + 2
-  pub counts_in : d * 2 + 2 ≤ length l.checks.counts
-  pub checks_fit : Fits w64 (d * 64)
-  pub checks_end_fits : Fits w64 (d * 64 + 64)
-  pub checks_bytes : Fits w64 (d * 64 * 4)
-  pub checks_up : d * 64 ≤ d * 64 + 64
-  pub positions_in : d * 64 + 64 ≤ length l.checks.positions
-  pub drifts_in : d * 64 + 64 ≤ length l.checks.drifts
-  pub row_pairs : Fits w64 (d * l.intervals * 2)
-  pub row_fours : Fits w64 (d * l.intervals * 4)
-  pub row_up : d * l.intervals ≤ d * l.intervals + l.intervals
-
-pub places_of : (l : Lent) (devices d : ℕ) → Sound l devices → d < devices → Places l d
-places_of l devices d x h =
-    let m : devices ≤ 16 = x.few_devices in
-    let n : l.intervals ≤ 35136 = x.few in
-    let k : length l.kinds ≡ devices = x.kinds_long in
-    let c : length l.checks.counts ≡ 2 * devices = x.roomy.counts in
-    let p : length l.checks.positions ≡ 64 * devices = x.roomy.positions in
-    let q : length l.checks.drifts ≡ 64 * devices = x.roomy.drifts in
-    record {
-      kind_in_lem = omega arith;
-      kind_fits = record { fits = omega arith };
-      counts_fit = record { fits = omega arith };
-      counts_end_fits = record { fits = omega arith };
-      counts_bytes = record { fits = omega arith };
-      counts_up = omega arith;
-      counts_in = omega arith;
-      checks_fit = record { fits = omega arith };
-      checks_end_fits = record { fits = omega arith };
-      checks_bytes = record { fits = omega arith };
-      checks_up = omega arith;
-      positions_in = omega arith;
-      drifts_in = omega arith;
-      row_pairs = record { fits = scaled d devices l.intervals 2 h m n (omega arith) };
-      row_fours = record { fits = scaled d devices l.intervals 4 h m n (omega arith) };
-      row_up = omega arith;
-    }
-
 -- ---- what is lent on to one device's function, and what it leaves in the whole rows
 
-module _ (l : Lent) (devices : ℕ) (x : Sound l devices) (d : ℕ) (h : d < devices) where
-  pub parts_right : (o f c : List ℕ) → length o ≡ devices * l.intervals → length f ≡ devices * l.intervals → length c ≡ devices * l.intervals
-      → Right (records_of l d) × (length (row_of o l.intervals d) ≡ length (row_of l.series.flow l.intervals d))
-      × (length (row_of f l.intervals d) ≡ length (row_of l.series.flow l.intervals d))
-      × (length (row_of c l.intervals d) ≡ length (row_of l.series.flow l.intervals d))
-  unfolding records_of
-  parts_right o f c p q r = (x.right d h, part o p, part f q, part c r)
+-- device d's part of each row, and rows with that part in place of their own
+abbrev pub rows_part : Rows → ℕ → ℕ → Rows
+rows_part s n d = rows_of (row_of s.outcome n d) (row_of s.flow n d) (row_of s.content n d)
+
+abbrev pub rows_put : Rows → ℕ → ℕ → Rows → Rows
+rows_put s n d part =
+    rows_of (put s.outcome (d * n) (d * n + n) part.outcome) (put s.flow (d * n) (d * n + n) part.flow) (put s.content (d * n) (d * n + n) part.content)
+
+-- r is device d's records, as the code puts them together
+module _ (l : Lent) (devices : ℕ) (x : Sound l devices) (d : ℕ) (h : d < devices) (s : Rows) (r : Records) (e : r ≡ records_of l d) where
+  pub parts_right : RowsLong s (devices * l.intervals) → Right r × RowsLong (rows_part s l.intervals d) (intervals_of r)
+  parts_right p = rw e (x.right d h, record { outcome = part s.outcome p.outcome; flow = part s.flow p.flow; content = part s.content p.content })
     where
-      part : (xs : List ℕ) → length xs ≡ devices * l.intervals → length (row_of xs l.intervals d) ≡ length (row_of l.series.flow l.intervals d)
-      part xs e = Series.row_long xs devices l.intervals d h e ∙ sym (row_long l devices x d h)
+      part : (xs : List ℕ) → length xs ≡ devices * l.intervals → length (row_of xs l.intervals d) ≡ intervals_of (records_of l d)
+      part xs q = Series.row_long xs devices l.intervals d h q ∙ sym (row_long l devices x d h)
 
-  -- a part of the device's length leaves the whole row as long as it was
-  put_kept : (xs ys : List ℕ) (g : ℕ → ℕ) → ys ≡ build (intervals_of (records_of l d)) g → length xs ≡ devices * l.intervals
-      → length (put xs (d * l.intervals) (d * l.intervals + l.intervals) ys) ≡ length xs
-  put_kept xs ys g e q =
-      length-put xs (d * l.intervals) (d * l.intervals + l.intervals) ys (omega arith) (part_end d devices l.intervals (length xs) h q)
-      (ap length e ∙ length-build (intervals_of (records_of l d)) g ∙ row_long l devices x d h ∙ sym (add-sub_cancel_left (d * l.intervals) l.intervals))
-
-  pub rows_kept : (xs fs cs o f c : List ℕ) (a : Account) → Filled (records_of l d) o f c a
-      → length xs ≡ devices * l.intervals → length fs ≡ devices * l.intervals → length cs ≡ devices * l.intervals
-      → (length (put xs (d * l.intervals) (d * l.intervals + l.intervals) o) ≡ length xs)
-      × (length (put fs (d * l.intervals) (d * l.intervals + l.intervals) f) ≡ length fs)
-      × (length (put cs (d * l.intervals) (d * l.intervals + l.intervals) c) ≡ length cs)
-  rows_kept xs fs cs o f c a y p q r = (
-    put_kept xs o (outcome_at (records_of l d)) y.outcome_built p,
-    put_kept fs f (flow_used_at (records_of l d)) y.flow_built q,
-    put_kept cs c (content_used_at (records_of l d)) y.content_built r,
-  )
-
-  pub rows_written : (xs fs cs o f c : List ℕ) (a : Account) → Filled (records_of l d) o f c a
-      → Written l d xs fs cs (put xs (d * l.intervals) (d * l.intervals + l.intervals) o)
-      (put fs (d * l.intervals) (d * l.intervals + l.intervals) f) (put cs (d * l.intervals) (d * l.intervals + l.intervals) c) a
+  pub rows_written : (part : Rows) (a : Account) → Filled r part a → Written l d s (rows_put s l.intervals d part) a
   unfolding outcome_part flow_part content_part
-  rows_written xs fs cs o f c a y =
+  rows_written part a y =
+      let z : Filled (records_of l d) part a = subst (λ (k : Records). Filled k part a) e y in
       record {
-        outcome_built = ap (put xs (d * l.intervals) (d * l.intervals + l.intervals)) (y.outcome_built ∙ whole (outcome_at (records_of l d)));
-        flow_built = ap (put fs (d * l.intervals) (d * l.intervals + l.intervals)) (y.flow_built ∙ whole (flow_used_at (records_of l d)));
-        content_built = ap (put cs (d * l.intervals) (d * l.intervals + l.intervals)) (y.content_built ∙ whole (content_used_at (records_of l d)));
-        account = y.account;
+        outcome_built = ap (put s.outcome (d * l.intervals) (d * l.intervals + l.intervals)) (z.outcome_built ∙ whole (outcome_at (records_of l d)));
+        flow_built = ap (put s.flow (d * l.intervals) (d * l.intervals + l.intervals)) (z.flow_built ∙ whole (flow_used_at (records_of l d)));
+        content_built = ap (put s.content (d * l.intervals) (d * l.intervals + l.intervals)) (z.content_built ∙ whole (content_used_at (records_of l d)));
+        account = z.account;
       }
     where
       whole : (g : ℕ → ℕ) → build (intervals_of (records_of l d)) g ≡ build l.intervals g

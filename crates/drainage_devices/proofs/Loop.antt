@@ -13,6 +13,7 @@ use Rattle.accounts.specs.declared.Totals.{Totals}
 use Rattle.accounts.specs.Account.{outcome_kinds, account_size, numbers_of}
 use Rattle.accounts.specs.Private.{added, Modest, Room}
 use Rattle.accounts.proofs.Booking.{Booking, booking_start, booking_more, booking_room, booking_place, booking_done}
+use Rattle.drainage_outcomes.specs.Rows.{rows_of, RowsLong}
 use Rattle.drainage_device.specs.Device.{outcome_at, flow_used_at, content_used_at}
 use Rattle.drainage_devices.specs.Devices.{Lent, Results, records_of, account_in, outcome_part, flow_part, content_part, results_of, Sound}
 use Rattle.drainage_devices.specs.Totals.{totals_of, AllWritten}
@@ -40,16 +41,15 @@ module _ (l : Lent) (devices : ℕ) (before : Results) where
   ten : (k : ℕ) → length (account_in l k).outcomes ≡ outcome_kinds
   ten k = account_ten (records_of l k)
 
-  pub going_start : (t : Totals) → Sound l devices → length before.outcome ≡ devices * l.intervals → length before.flow ≡ devices * l.intervals
-      → length before.content ≡ devices * l.intervals → length before.accounts ≡ devices_most * account_size → t ≡ totals_of l 0
-      → Going l devices before before t 0
-  going_start t x p q r s e =
+  pub going_start : (t : Totals) → Sound l devices → RowsLong (rows_of before.outcome before.flow before.content) (devices * l.intervals)
+      → length before.accounts ≡ devices_most * account_size → t ≡ totals_of l 0 → Going l devices before before t 0
+  going_start t x p s e =
       record {
         within = omega arith;
         sound = x;
-        outcomes = row_start l.intervals devices (outcome_part l) before.outcome p;
-        flows = row_start l.intervals devices (flow_part l) before.flow q;
-        contents = row_start l.intervals devices (content_part l) before.content r;
+        outcomes = row_start l.intervals devices (outcome_part l) before.outcome p.outcome;
+        flows = row_start l.intervals devices (flow_part l) before.flow p.flow;
+        contents = row_start l.intervals devices (content_part l) before.content p.content;
         booked = booking_start (account_in l) ten before.accounts t s e;
       }
 
@@ -58,7 +58,7 @@ module _ (l : Lent) (devices : ℕ) (before : Results) where
     few h = let z = x.sound.few_devices in omega arith
 
     pub going_on : (new : Results) (t' : Totals) (a : Account) → d < devices
-        → Written l d now.outcome now.flow now.content new.outcome new.flow new.content a
+        → Written l d (rows_of now.outcome now.flow now.content) (rows_of new.outcome new.flow new.content) a
         → new.accounts ≡ put now.accounts (d * account_size) (d * account_size + account_size) (numbers_of a) → t' ≡ added t a
         → Going l devices before new t' (d + 1)
     going_on new t' a h w k e =

@@ -5,6 +5,7 @@ use Rattle.protocol.specs.Ranges.{intervals_most, devices_most}
 use Rattle.rows.specs.Rows.{build, join}
 use Rattle.columns.specs.Series.{Series, Checks, Long, ChecksLong, series_part, checks_part}
 use Rattle.accounts.specs.Account.{accounts_of}
+use Rattle.drainage_outcomes.specs.Rows.{Rows}
 use Rattle.drainage_device.specs.Device.{Records, Right, outcome_at, flow_used_at, content_used_at, account_of}
 use Rattle.accounts.specs.declared.Account.{Account}
 
@@ -30,6 +31,10 @@ pub record Results : Type 0 where
   pub flow : List ℕ
   pub content : List ℕ
   pub accounts : List ℕ
+
+-- made of rows and accounts
+abbrev pub results_with : Rows → List ℕ → Results
+results_with rows accounts = record { outcome = rows.outcome; flow = rows.flow; content = rows.content; accounts = accounts }
 
 -- one device's part of each
 unfoldable pub outcome_part : Lent → ℕ → List ℕ

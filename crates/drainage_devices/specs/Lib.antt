@@ -1,3 +1,4 @@
 pub mod Devices
 pub mod Totals
 pub mod Private
+pub mod Lent

@@ -3,120 +3,74 @@
 
 ghost use Rattle.std.specs.Prelude.{ℕ, ◌+◌, ◌*◌, ◌≤◌, ◌<◌, ◌≡◌, length};
 ghost use Rattle.protocol.specs.Ranges.{devices_most};
-ghost use Rattle.columns.specs.Series.{series_now, checks_now, series_at, checks_at};
 ghost use Rattle.accounts.specs.Account.{account_size};
-ghost use Rattle.drainage_devices.specs.Devices.{Sound};
+ghost use Rattle.drainage_outcomes.specs.Rows.{RowsLong, rows_of, rows_in, rows_left};
+ghost use Rattle.drainage_devices.specs.Devices.{Sound, results_with};
 ghost use Rattle.drainage_devices.specs.Totals.{AllWritten};
 ghost use Rattle.drainage_devices.specs.Private.{Written};
+ghost use Rattle.drainage_devices.specs.Lent.{lent_in};
 
 use accounts::{Account, Totals};
-use protocol::DEVICE_CHECKS;
+use columns::{Checks, Series};
+use drainage_device::Records;
+use drainage_outcomes::Rows;
+
+// The records of all devices, device 0 first (rules 3.3 and 3.12).
+#[derive(Clone, Copy)]
+pub struct Lent<'a> {
+    pub intervals: usize,
+    pub kinds: &'a [u32],
+    pub checks: Checks<'a>,
+    pub series: Series<'a>,
+}
 
 // Device d's part of each row is lent on to the function that fills one device's row. Ruled out: a part that starts in the
 // neighbour's row; a neighbour's entry changed.
+// The rows are three parameters, as `drainage_device::fill_row` takes them.
 fn fill_device(
+    lent: &Lent<'_>,
     d: usize,
     devices: usize,
-    n: usize,
-    kinds: &[u32],
-    counts: &[u32],
-    positions: &[u32],
-    drifts: &[i32],
-    flow: &[u16],
-    content: &[u16],
-    temp: &[i16],
-    press: &[u32],
-    status: &[u8],
     outcome: &mut [u8],
-    flow_used: &mut [u16],
-    content_used: &mut [u16],
+    flow: &mut [u16],
+    content: &mut [u16],
 ) -> Account
-    requires { Sound
-        (record { intervals = n; kinds = kinds.now; checks = checks_now counts positions drifts; series = series_now flow content temp press status })
-        devices
-        × (d < devices) × (length outcome.old ≡ devices * n) × (length flow_used.old ≡ devices * n)
-        × (length content_used.old ≡ devices * n) }
-    ensures { Written
-        (record { intervals = n; kinds = kinds.now; checks = checks_at counts positions drifts; series = series_at flow content temp press status })
-        d outcome.old flow_used.old content_used.old
-        outcome.new flow_used.new content_used.new result }
+    requires { Sound (lent_in lent.now) devices × (d < devices)
+        × RowsLong (rows_of outcome.old flow.old content.old) (devices * lent.now.intervals) }
+    ensures { Written (lent_in lent.now) d (rows_of outcome.old flow.old content.old) (rows_of outcome.new flow.new content.new) result }
 {
-    let a = d * n;
-    let e = a + n;
-    let c = d * 2;
-    let f = c + 2;
-    let p = d * DEVICE_CHECKS;
-    let q = p + DEVICE_CHECKS;
+    let a = d * lent.intervals;
+    let e = a + lent.intervals;
     drainage_device::fill_row(
-        kinds[d],
-        &flow[a..e],
-        &content[a..e],
-        &temp[a..e],
-        &press[a..e],
-        &status[a..e],
-        &counts[c..f],
-        &positions[p..q],
-        &drifts[p..q],
+        &Records {
+            kind: lent.kinds[d],
+            series: lent.series.part(a, e),
+            checks: lent.checks.part(d),
+        },
         &mut outcome[a..e],
-        &mut flow_used[a..e],
-        &mut content_used[a..e],
+        &mut flow[a..e],
+        &mut content[a..e],
     )
 }
 
 // The rows and accounts of all devices, device 0 first, and their sums. Ruled out: the first device done and the rest faked; a
 // device counted twice.
-pub fn fill_rows(
-    devices: usize,
-    n: usize,
-    kinds: &[u32],
-    counts: &[u32],
-    positions: &[u32],
-    drifts: &[i32],
-    flow: &[u16],
-    content: &[u16],
-    temp: &[i16],
-    press: &[u32],
-    status: &[u8],
-    outcome: &mut [u8],
-    flow_used: &mut [u16],
-    content_used: &mut [u16],
-    accounts: &mut [u64],
-) -> Totals
-    requires { Sound
-        (record { intervals = n; kinds = kinds.now; checks = checks_now counts positions drifts; series = series_now flow content temp press status })
-        devices
-        × (length outcome.old ≡ devices * n) × (length flow_used.old ≡ devices * n)
-        × (length content_used.old ≡ devices * n) × (length accounts.old ≡ devices_most * account_size) }
-    ensures { AllWritten
-        (record { intervals = n; kinds = kinds.now; checks = checks_at counts positions drifts; series = series_at flow content temp press status })
-        devices
-        (record { outcome = outcome.old; flow = flow_used.old; content = content_used.old; accounts = accounts.old })
-        (record { outcome = outcome.new; flow = flow_used.new; content = content_used.new; accounts = accounts.new })
-        result }
+pub fn fill_rows(lent: &Lent<'_>, devices: usize, rows: Rows<'_>, accounts: &mut [u64]) -> Totals
+    requires { Sound (lent_in lent.now) devices × RowsLong (rows_in rows) (devices * lent.now.intervals)
+        × (length accounts.old ≡ devices_most * account_size) }
+    ensures { AllWritten (lent_in lent.now) devices
+        (results_with (rows_in rows.entry) accounts.old) (results_with (rows_left rows.exit) accounts.new) result }
 {
-    let mut t = accounts::none();
-    let mut d = 0;
-    while d < devices {
-        let a = fill_device(
-            d,
-            devices,
-            n,
-            kinds,
-            counts,
-            positions,
-            drifts,
-            flow,
-            content,
-            temp,
-            press,
-            status,
-            outcome,
-            flow_used,
-            content_used,
-        );
-        accounts::store(d, a, accounts);
-        t = accounts::add(t, a);
-        d += 1;
+    let Rows {
+        outcome,
+        flow,
+        content,
+    } = rows;
+    let mut t = Totals::none();
+    for d in 0..devices {
+        let a = fill_device(lent, d, devices, outcome, flow, content);
+        a.store(d, accounts);
+        t = t.with(a);
     }
     t
 }

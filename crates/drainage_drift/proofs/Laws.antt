@@ -6,20 +6,17 @@ use mathlib.Core.Path.{◌≡◌, refl, sym, ap, ap₂, ◌∙◌, subst}
 use mathlib.Core.Bool.{Bool, true, false}
 use mathlib.Core.List.{List}
 use mathlib.Core.Logic.{⊎_elim}
-use native.Mathlib.Nat.{mul-le-mul_left, div-le_of_le-mul, mul-div_cancel, not-suc-le-zero, le_step, lt-suc_self, eq-or-lt_of_le, le_of_suc-le-suc, le_trans}
+use native.Mathlib.Nat.{div-le_of_le-mul, mul-div_cancel, not-suc-le-zero, le_step, lt-suc_self, eq-or-lt_of_le, le_of_suc-le-suc, le_trans}
 use native.Mathlib.Nat.{le_of_lt, lt_of_not-le, max-zero, le-max_left, le-max_right, max-eq_left, max-eq_right}
 use native.Mathlib.Decide.{dec_le}
 use native.Mathlib.Omega.{arith}
 use lib.ListN.{length, get_or}
-use lib.Seq.{drop-cons}
+use lib.Seq.{ext_get_or}
 use borrow.Author.Tests.{eqb-true, eqb-false, eq-eqb, ne_eqb}
-use Rattle.rows.specs.Rows.{pick}
+use Rattle.rows.specs.Rows.{pick, build, cut}
+use Rattle.rows.proofs.Laws.{length-build, get_or-build, length-cut, get_or-cut, get_or_inside}
 use Rattle.protocol.specs.Ranges.{mark, missing}
 use Rattle.drainage_drift.specs.Drift.{Instrument, passes, together, excess, max_to, stretch_drift, corrected, kept_or, corrected_at}
-
--- what stands at an index inside a row does not depend on what would stand outside
-pub inside_row : {A : Type 0} (xs : List A) (i : ℕ) (d e : A) → i < length xs → get_or xs i d ≡ get_or xs i e
-inside_row xs i d e h = let p = drop-cons xs i d h in let q = drop-cons xs i e h in cc
 
 pub corrected_le : (d v : ℕ) → corrected d v ≤ v
 unfolding corrected
@@ -45,24 +42,28 @@ kept_none reading i = go (missing (get_or reading i mark)) refl
     go true e = kept_missing 0 reading i e ∙ sym (eqb-true (get_or reading i mark) mark e)
     go false e = kept_measured 0 reading i e ∙ corrected_none (get_or reading i mark)
 
--- as the code copies it: its reads have 0 outside the row
-pub kept_copied : (reading : List ℕ) (i : ℕ) → i < length reading → get_or reading i 0 ≡ kept_or 0 reading i
-kept_copied reading i h = inside_row reading i 0 mark h ∙ sym (kept_none reading i)
+-- as the code copies it
+pub kept_cut : (reading : List ℕ) (a e : ℕ) → a ≤ e → e ≤ length reading → cut reading a e ≡ build (e - a) (λ k. kept_or 0 reading (a + k))
+kept_cut reading a e l h =
+    ext_get_or mark (cut reading a e) (build (e - a) (λ k. kept_or 0 reading (a + k)))
+    (long ∙ sym (length-build (e - a) (λ k. kept_or 0 reading (a + k))))
+    (λ i m.
+    let n : i < e - a = subst (λ (x : ℕ). i < x) long m in
+    get_or-cut reading a e i mark n ∙ sym (kept_none reading (a + i)) ∙ sym (get_or-build (e - a) (λ k. kept_or 0 reading (a + k)) i mark n))
+  where
+    long : length (cut reading a e) ≡ e - a
+    long = length-cut reading a e l h
 
 -- the two cases as the code meets them: its reads have 0 outside the row, and it divides by 10,000 and the drift
 module _ (e : ℕ) (reading : List ℕ) (i : ℕ) (h : i < length reading) where
   pub kept_marks : get_or reading i 0 ≡ mark → get_or reading i 0 ≡ kept_or (e - 10000) reading i
-  kept_marks q = q ∙ sym (kept_missing (e - 10000) reading i (eq-eqb (get_or reading i mark) mark (inside_row reading i mark 0 h ∙ q)))
+  kept_marks q = q ∙ sym (kept_missing (e - 10000) reading i (eq-eqb (get_or reading i mark) mark (get_or_inside reading i mark 0 h ∙ q)))
 
   pub kept_divides : 10000 ≤ e → (get_or reading i 0 ≡ mark → ⊥) → get_or reading i 0 * 10000 / e ≡ kept_or (e - 10000) reading i
   unfolding corrected
   kept_divides l q =
-      ap₂ (λ (v d : ℕ). v * 10000 / d) (inside_row reading i 0 mark h) (let w : e ≡ 10000 + (e - 10000) = omega arith in w)
-      ∙ sym (kept_measured (e - 10000) reading i (ne_eqb (get_or reading i mark) mark (λ r. q (inside_row reading i 0 mark h ∙ r))))
-
--- a quotient of the code's is no greater than its reading, so it fits where that does
-pub quotient_le : (e v : ℕ) → 10000 ≤ e → v * 10000 / e ≤ v
-quotient_le e v l = div-le_of_le-mul e (let w : v * 10000 ≤ v * e = mul-le-mul_left v l in omega arith)
+      ap₂ (λ (v d : ℕ). v * 10000 / d) (get_or_inside reading i 0 mark h) (let w : e ≡ 10000 + (e - 10000) = omega arith in w)
+      ∙ sym (kept_measured (e - 10000) reading i (ne_eqb (get_or reading i mark) mark (λ r. q (get_or_inside reading i 0 mark h ∙ r))))
 
 -- ---- the same of a row
 
@@ -94,21 +95,6 @@ module _ (c : Instrument) (reading : List ℕ) (i : ℕ) where
           (let p = at_measured e in
           let q = corrected_le (stretch_drift c i) (get_or reading i mark) in
           omega arith))
-
-  -- where measured readings are at most b, so are measured corrected values, and the same ones are missing
-  module _ (b : ℕ) (small : b < mark) (right : missing (get_or reading i mark) ≡ false → get_or reading i mark ≤ b) where
-    up_to_mark : get_or reading i mark ≤ mark
-    up_to_mark = go (missing (get_or reading i mark)) refl
-      where
-        go : (t : Bool) → missing (get_or reading i mark) ≡ t → get_or reading i mark ≤ mark
-        go true e = let q = eqb-true (get_or reading i mark) mark e in omega arith
-        go false e = let q = right e in omega arith
-
-    pub bounded_missing : missing (corrected_at c reading i) ≡ missing (get_or reading i mark)
-    bounded_missing = same_missing up_to_mark
-
-    pub bounded_value : missing (corrected_at c reading i) ≡ false → corrected_at c reading i ≤ b
-    bounded_value e = let f = sym bounded_missing ∙ e in at_bounded b f (right f)
 
 -- ---- the greatest of some numbers
 

@@ -5,7 +5,7 @@ use mathlib.Core.Path.{◌≡◌, refl, sym, ap, ap₂, ◌∙◌, subst}
 use mathlib.Core.Bool.{Bool, true, false}
 use mathlib.Core.List.{List, ◌++◌}
 use mathlib.Core.Logic.{◌⊎◌, inl, inr, ⊎_elim}
-use native.Mathlib.Nat.{lt_of_not-le, le_refl, not-suc-le-zero, eq-or-lt_of_le, max-eq_left, add-max-add_right}
+use native.Mathlib.Nat.{lt_of_not-le, le_refl, eq-or-lt_of_le, max-eq_left, add-max-add_right}
 use native.Mathlib.Numerals.{add-one}
 use native.Mathlib.Decide.{dec_le}
 use native.Mathlib.Omega.{arith}
@@ -84,21 +84,6 @@ pub record Walked (c : Instrument) (reading old used : List ℕ) (j start diviso
   pub old_length : length old ≡ length reading
 
 module _ (c : Instrument) (reading old : List ℕ) where
-  pub walked_none : Ordered c (length reading) → length old ≡ length reading → Walked c reading old old 0 0 10000
-  walked_none o l =
-      record {
-        ordered = o;
-        counted = omega arith;
-        opens = inl refl;
-        behind = λ m h. absurd (not-suc-le-zero h);
-        ahead = λ m h k. omega arith;
-        inside = omega arith;
-        greatest = refl;
-        grown = refl;
-        same_length = l;
-        old_length = l;
-      }
-
   module _ (used : List ℕ) (j start divisor : ℕ) (x : Walked c reading old used j start divisor) where
     -- a failed check's drift, where the check stands in the open stretch
     met : j < c.count → passes c j ≡ false → raised 0 (drift_of c j) ≡ excess_from c start j

@@ -12,10 +12,9 @@ use native.Mathlib.Omega.{arith}
 use lib.ListN.{length, get_or, drop, length-append, length-drop, get_or-append}
 use lib.Seq.{drop-cons, get_or-append-add, get_or-drop}
 use Rattle.rows.specs.Rows.{pick, build, every, Continued}
-use Rattle.rows.proofs.Laws.{length-build, get_or-build, build_done, every_at, every_all}
+use Rattle.rows.proofs.Laws.{length-build, get_or-build, every_at}
 use Rattle.protocol.specs.Ranges.{intervals_most, mark, flow_most}
 use Rattle.drainage_runs.specs.Runs.{missing_at, measured_at, gap_start, gap_end}
-use Rattle.drainage_runs.specs.Private.{block}
 use Rattle.drainage_runs.proofs.Laws.{start_zero, start_new, of_gap, end_most, end_measured}
 use Rattle.drainage_gaps.specs.Gaps.{replacement_of, replacement_at}
 use Rattle.drainage_gaps.specs.Private.{held_for, filled_at, Goes}
@@ -137,13 +136,6 @@ module _ (reading corrected used : List ℕ) where
             (one_gap reading corrected i e k (g.starts ∙ v.fresh l m) (g.stops ∙ sym q)
             ∙ sym (same_replacement reading used corrected i e v.goes.same_length v.within agrees))
 
-    pub filling_done : length reading ≤ i → used ≡ build (length reading) (filled_at reading corrected)
-    filling_done h =
-        let e : i ≡ length reading = omega (arith, v.within) in
-        v.filled
-        ∙ ap (λ (m : ℕ). build m (filled_at reading corrected) ++ drop m corrected) e
-        ∙ build_done (length reading) (filled_at reading corrected) corrected v.goes.same_length
-
 -- measured entries are passed over as they stand
 filling_on : (reading corrected used : List ℕ) (i n : ℕ) → Filling reading corrected used i → i + n ≤ length reading
     → ((k : ℕ) → k < n → missing_at reading (i + k) ≡ false) → Filling reading corrected used (i + n)
@@ -160,14 +152,3 @@ filling_next reading corrected used i r v h l e =
     subst (Filling reading corrected used) (let z : i + (r - i) ≡ r = omega arith in z)
     (filling_on reading corrected used i (r - i) v (omega arith)
     (λ k z. not-true _ (every_at (r - i) (λ j. measured_at reading (i + j)) e k z)))
-
--- ---- how far the search goes on
-
-pub next_one : (reading : List ℕ) (i : ℕ) → measured_at reading i ≡ true → every (i + 1 - i) (λ k. measured_at reading (i + k)) ≡ true
-next_one reading i e =
-    every_all (i + 1 - i) (λ k. measured_at reading (i + k))
-    (λ k h. subst (λ (x : ℕ). measured_at reading x ≡ true) (let z : i ≡ i + k = omega arith in z) e)
-
-pub next_block : (reading : List ℕ) (i : ℕ) → every block (λ k. measured_at reading (i + k)) ≡ true
-    → every (i + block - i) (λ k. measured_at reading (i + k)) ≡ true
-next_block reading i e = ap (λ (n : ℕ). every n (λ k. measured_at reading (i + k))) (let z : i + block - i ≡ block = omega arith in z) ∙ e

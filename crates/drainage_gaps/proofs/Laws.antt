@@ -6,11 +6,12 @@ use mathlib.Core.Bool.{Bool, true, false}
 use mathlib.Core.List.{List, ◌++◌}
 use native.Mathlib.Omega.{arith}
 use lib.Dec.{leb}
+use Rattle.std.proofs.Common.{Option, Some, None}
 use lib.ListN.{length, get_or}
 use lib.Seq.{ext_get_or}
 use Rattle.rows.specs.Rows.{pick, cut}
 use Rattle.rows.proofs.Laws.{length-cut, get_or-cut, get_or_inside}
-use Rattle.protocol.specs.Ranges.{mark, flow_most}
+use Rattle.protocol.specs.Ranges.{mark, flow_most, intervals_most}
 use Rattle.drainage_window.specs.Window.{tally_of, mean_of, limit_of, mean_width, width90, width95, z90, z95}
 use Rattle.drainage_window.specs.Sizes.{Low, Windows}
 use Rattle.drainage_window.specs.declared.Tally.{Tally}
@@ -22,9 +23,6 @@ use Rattle.drainage_gaps.specs.Gaps.{Replaced, class_of, taken_by, window_values
 use Rattle.drainage_gaps.specs.Private.{held_for, Goes}
 use Rattle.drainage_gaps.specs.declared.Rule.{Rule}
 use Rattle.drainage_gaps.specs.declared.Rule.TheVariants.{Mean, Limit}
-use Rattle.drainage_gaps.specs.declared.Class.{Class}
-use Rattle.drainage_gaps.specs.declared.Class.TheVariants.{Of, TooLong}
-use Rattle.drainage_gaps.specs.declared.Replacement.TheVariants.{Value, NotWhole}
 
 -- two rows of values agree wherever the reading is measured
 pub record Agree (reading used corrected : List ℕ) : Type 0 where
@@ -91,35 +89,47 @@ module _ (reading : List ℕ) (a e w : ℕ) (h : whole reading a e w ≡ true) w
 
 -- ---- the lines of the table
 
+abbrev pub line : ℕ → Rule → Option (ℕ × Rule)
+line w rule = Some (w, rule)
+
 pub record Fits (w : ℕ) (rule : Rule) : Type 0 where
   pub some : 0 < w
   pub few : w ≤ width95
   pub mean : rule ≡ Mean → w ≡ mean_width
   pub limit : (z : ℕ) → rule ≡ Limit z → z ≤ z95
 
-pub class_fits : (gap w : ℕ) (rule : Rule) → Of w rule ≡ class_of gap → Fits w rule
+-- a class is one width and one rule
+line_is : {w v : ℕ} {rule other : Rule} → line w rule ≡ line v other → (w ≡ v) × (rule ≡ other)
+line_is {w} {v} {rule} {other} e =
+    let p : ◌≡◌ {A = ℕ × Rule} (w, rule) (v, other) = cc in
+    (ap (λ (x : ℕ × Rule). x.0) p, ap (λ (x : ℕ × Rule). x.1) p)
+
+not_limit : {z : ℕ} → Mean ≡ Limit z → ⊥
+not_limit q = let x : ◌≡◌ {A = ℕ} 0 1 = cc in omega arith
+
+pub class_fits : (gap w : ℕ) (rule : Rule) → line w rule ≡ class_of gap → Fits w rule
 unfolding class_of
 class_fits gap w rule e = go (leb gap 23) (leb gap 95) (leb gap 672) e
   where
-    limited : (v y : ℕ) → 0 < v → v ≤ width95 → y ≤ z95 → Of w rule ≡ Of v (Limit y) → Fits w rule
+    limited : (v y : ℕ) → 0 < v → v ≤ width95 → y ≤ z95 → line w rule ≡ line v (Limit y) → Fits w rule
     limited v y s f m q =
-        let n : w ≡ v = cc in
+        let n = line_is q in
         record {
           some = omega arith;
           few = omega arith;
-          mean = λ r. let x : ◌≡◌ {A = ℕ} 0 1 = cc in absurd (let o : ⊥ = omega arith in o);
-          limit = λ z r. let x : z ≡ y = cc in omega arith;
+          mean = λ r. absurd (not_limit (sym r ∙ n.1));
+          limit = λ z r. let t : Limit z ≡ Limit y = sym r ∙ n.1 in let x : z ≡ y = cc in omega arith;
         }
 
     go : (p q r : Bool)
-        → Of w rule ≡ pick p (Of mean_width Mean) (pick q (Of width90 (Limit z90)) (pick r (Of width95 (Limit z95)) TooLong)) → Fits w rule
+        → line w rule ≡ pick p (line mean_width Mean) (pick q (line width90 (Limit z90)) (pick r (line width95 (Limit z95)) None)) → Fits w rule
     go true q r z =
-        let n : w ≡ mean_width = cc in
+        let n = line_is z in
         record {
           some = omega arith;
           few = omega arith;
-          mean = λ y. n;
-          limit = λ y f. let x : ◌≡◌ {A = ℕ} 0 1 = cc in absurd (let o : ⊥ = omega arith in o);
+          mean = λ y. n.0;
+          limit = λ y f. absurd (not_limit (sym n.1 ∙ f));
         }
     go false true r z = limited width90 z90 (omega arith) (omega arith) (omega arith) z
     go false false true z = limited width95 z95 (omega arith) (omega arith) (omega arith) z
@@ -140,9 +150,9 @@ same_replacement reading used corrected a e n r g = go (class_of (e - a)) refl
         ap (λ (xs : List ℕ). Replaced.by (taken_by rule (tally_of xs))) (same_windows reading a e w q used corrected s n r g)
     found w rule s false q = refl
 
-    go : (c : Class) → c ≡ class_of (e - a) → replaced_in reading used a e c ≡ replaced_in reading corrected a e c
-    go TooLong q = refl
-    go (Of w rule) q = found w rule (class_fits (e - a) w rule q).some (whole reading a e w) refl
+    go : (c : Option (ℕ × Rule)) → c ≡ class_of (e - a) → replaced_in reading used a e c ≡ replaced_in reading corrected a e c
+    go None q = refl
+    go (Some (w, rule)) q = found w rule (class_fits (e - a) w rule q).some (whole reading a e w) refl
 
 taken_most : (rule : Rule) (b : ℕ) (t : Tally) → t.sum ≤ t.n * b → taken_by rule t ≤ b
 taken_most Mean b t h = mean_most t b h
@@ -174,6 +184,13 @@ pub record Prepared (reading used : List ℕ) (a e w : ℕ) (rule : Rule) : Type
   pub goes : Goes reading used flow_most
   pub fits : Fits w rule
   pub is_whole : whole reading a e w ≡ true
+
+-- as the code finds it
+pub prepared : {reading used : List ℕ} {a e w : ℕ} {rule : Rule} {b : Bool}
+    → (a < e) × (e ≤ length reading) × (length reading ≤ intervals_most) × Goes reading used flow_most × (line w rule ≡ class_of (e - a))
+    → b ≡ whole reading a e w → b ≡ true → Prepared reading used a e w rule
+prepared h r t =
+    record { order = h.0; inside = h.1; goes = h.3; fits = class_fits _ _ _ h.4; is_whole = sym r ∙ t }
 
 module _ {reading used : List ℕ} {a e w : ℕ} {rule : Rule} (d : Prepared reading used a e w rule) where
   pub ready_before : w ≤ a
@@ -210,11 +227,11 @@ module _ {reading used : List ℕ} {a e w : ℕ} {rule : Rule} (d : Prepared rea
 
   -- what is taken of the windows is the replacement, and is in range
   pub ready_value : (r : ℕ) → r ≡ taken_by rule (tally_of (cut used (a - w) a ++ cut used e (e + w)))
-      → (Value r ≡ pick (whole reading a e w) (Value (taken_by rule (tally_of (window_values used a e w)))) NotWhole) × (r ≤ flow_most)
+      → (Some r ≡ pick (whole reading a e w) (Some (taken_by rule (tally_of (window_values used a e w)))) None) × (r ≤ flow_most)
   unfolding window_values
   ready_value r q = (
-    ap Value q
-        ∙ sym (ap (λ (b : Bool). pick b (Value (taken_by rule (tally_of (cut used (a - w) a ++ cut used e (e + w))))) NotWhole) d.is_whole),
+    ap Some q
+        ∙ sym (ap (λ (b : Bool). pick b (Some (taken_by rule (tally_of (cut used (a - w) a ++ cut used e (e + w))))) None) d.is_whole),
     subst (λ (x : ℕ). x ≤ flow_most) (sym q)
         (value_most reading used a e w flow_most rule d.is_whole d.fits.some (omega (arith, d.order, d.inside)) d.goes),
   )
@@ -256,39 +273,39 @@ replacement_bounded reading corrected i b l g = go (class_of (y - x)) refl
         by_bounded b _ (value_most reading corrected x y w b rule f s (let n = start_least reading i in omega arith) g)
     found w rule s false f = excluded_bounded b not_whole (omega arith) (omega arith)
 
-    go : (c : Class) → c ≡ class_of (y - x) → Bounded b (replaced_in reading corrected x y c)
-    go TooLong f = excluded_bounded b too_long (omega arith) (omega arith)
-    go (Of w rule) f = found w rule (class_fits (y - x) w rule f).some (whole reading x y w) refl
+    go : (c : Option (ℕ × Rule)) → c ≡ class_of (y - x) → Bounded b (replaced_in reading corrected x y c)
+    go None f = excluded_bounded b too_long (omega arith) (omega arith)
+    go (Some (w, rule)) f = found w rule (class_fits (y - x) w rule f).some (whole reading x y w) refl
 
 -- ---- the cases of the code
 
-pub replaced_not : (b : Bool) (v : ℕ) → b ≡ false → NotWhole ≡ pick b (Value v) NotWhole
-replaced_not b v q = sym (ap (λ (t : Bool). pick t (Value v) NotWhole) q)
+pub replaced_not : (b : Bool) (v : ℕ) → b ≡ false → None ≡ pick b (Some v) None
+replaced_not b v q = sym (ap (λ (t : Bool). pick t (Some v) None) q)
 
 module _ (reading corrected : List ℕ) (a e : ℕ) where
-  pub held_long : TooLong ≡ class_of (e - a) → excluding + too_long ≡ held_for (replacement_of reading corrected a e)
+  pub held_long : None ≡ class_of (e - a) → excluding + too_long ≡ held_for (replacement_of reading corrected a e)
   unfolding held_for replacement_of
-  held_long q = ap (λ (c : Class). held_for (replaced_in reading corrected a e c)) q
+  held_long q = ap (λ (c : Option (ℕ × Rule)). held_for (replaced_in reading corrected a e c)) q
 
-  module _ (w : ℕ) (rule : Rule) (q : Of w rule ≡ class_of (e - a)) where
-    held_by : held_for (replaced_in reading corrected a e (Of w rule)) ≡ held_for (replacement_of reading corrected a e)
+  module _ (w : ℕ) (rule : Rule) (q : line w rule ≡ class_of (e - a)) where
+    held_by : held_for (replaced_in reading corrected a e (line w rule)) ≡ held_for (replacement_of reading corrected a e)
     unfolding replacement_of
-    held_by = ap (λ (c : Class). held_for (replaced_in reading corrected a e c)) q
+    held_by = ap (λ (c : Option (ℕ × Rule)). held_for (replaced_in reading corrected a e c)) q
 
-    pub held_not : NotWhole ≡ pick (whole reading a e w) (Value (taken_by rule (tally_of (window_values corrected a e w)))) NotWhole
+    pub held_not : None ≡ pick (whole reading a e w) (Some (taken_by rule (tally_of (window_values corrected a e w)))) None
         → excluding + not_whole ≡ held_for (replacement_of reading corrected a e)
     unfolding held_for
     held_not r = go (whole reading a e w) (taken_by rule (tally_of (window_values corrected a e w))) r ∙ held_by
       where
-        go : (b : Bool) (x : ℕ) → NotWhole ≡ pick b (Value x) NotWhole → excluding + not_whole ≡ held_for (pick b (Replaced.by x) (Replaced.excluded not_whole))
+        go : (b : Bool) (x : ℕ) → None ≡ pick b (Some x) None → excluding + not_whole ≡ held_for (pick b (Replaced.by x) (Replaced.excluded not_whole))
         go true x z = let y : ◌≡◌ {A = ℕ} 0 1 = cc in absurd (let n : ⊥ = omega arith in n)
         go false x z = refl
 
-    pub held_value : (v : ℕ) → Value v ≡ pick (whole reading a e w) (Value (taken_by rule (tally_of (window_values corrected a e w)))) NotWhole
+    pub held_value : (v : ℕ) → Some v ≡ pick (whole reading a e w) (Some (taken_by rule (tally_of (window_values corrected a e w)))) None
         → v ≡ held_for (replacement_of reading corrected a e)
     unfolding held_for
     held_value v r = go (whole reading a e w) (taken_by rule (tally_of (window_values corrected a e w))) r ∙ held_by
       where
-        go : (b : Bool) (x : ℕ) → Value v ≡ pick b (Value x) NotWhole → v ≡ held_for (pick b (Replaced.by x) (Replaced.excluded not_whole))
+        go : (b : Bool) (x : ℕ) → Some v ≡ pick b (Some x) None → v ≡ held_for (pick b (Replaced.by x) (Replaced.excluded not_whole))
         go true x z = cc
         go false x z = let y : ◌≡◌ {A = ℕ} 0 1 = cc in absurd (let n : ⊥ = omega arith in n)

@@ -1,8 +1,8 @@
 // The replacement of every gap of one series, each gap found and worked out once.
 #![tactic(auto)]
 
-ghost use Rattle.std.specs.Prelude.{ℕ, ◌+◌, ◌-◌, ◌≤◌, ◌<◌, ◌≡◌, true, length};
-ghost use Rattle.rows.specs.Rows.{pick, build, every, Continued};
+ghost use Rattle.std.specs.Prelude.{◌+◌, ◌-◌, ◌≤◌, ◌<◌, ◌≡◌, true, length};
+ghost use Rattle.rows.specs.Rows.{pick, build, every};
 ghost use Rattle.protocol.specs.Ranges.{intervals_most, flow_most};
 ghost use Rattle.drainage_window.specs.Window.{tally_of};
 ghost use Rattle.drainage_runs.specs.Runs.{measured_at, whole};
@@ -10,7 +10,7 @@ ghost use Rattle.drainage_gaps.specs.Gaps.{class_of, taken_by, window_values, re
 ghost use Rattle.drainage_gaps.specs.Private.{held_for, filled_at, Goes};
 
 use drainage_runs::{BLOCK, EXCLUDING, NOT_WHOLE, TOO_LONG};
-use drainage_window::{MEAN_WIDTH, WIDTH_90, WIDTH_95, Z90, Z95};
+use drainage_window::{MEAN_WIDTH, Tally, WIDTH_90, WIDTH_95, Z90, Z95};
 use protocol::MISSING;
 
 // The longest gap that is replaced by the mean, by the 90 % limit, and at all.
@@ -27,55 +27,40 @@ pub enum Rule {
     Limit(u64),
 }
 
-// The entries of each window and the rule; or there is no replacement for so long a gap.
-#[derive(Clone, Copy)]
-pub enum Class {
-    Of(usize, Rule),
-    TooLong,
-}
-
-#[derive(Clone, Copy)]
-pub enum Replacement {
-    Value(u16),
-    NotWhole,
-}
-
-// The table of gaps. Ruled out: a border off by one; the last class for every gap.
-fn class_of(gap: usize) -> Class
+// The table of gaps: the entries of each window and the rule, or none for so long a gap. Ruled out: a border off by one; the last
+// class for every gap.
+fn class_of(gap: usize) -> Option<(usize, Rule)>
     ensures { result ≡ class_of gap }
 {
     if gap <= MEAN_LONGEST {
-        return Class::Of(MEAN_WIDTH, Rule::Mean);
+        return Some((MEAN_WIDTH, Rule::Mean));
     }
     if gap <= LONGEST_90 {
-        return Class::Of(WIDTH_90, Rule::Limit(Z90));
+        return Some((WIDTH_90, Rule::Limit(Z90)));
     }
     if gap <= LONGEST_95 {
-        return Class::Of(WIDTH_95, Rule::Limit(Z95));
+        return Some((WIDTH_95, Rule::Limit(Z95)));
     }
-    Class::TooLong
+    None
 }
 
-// The replacement for the gap from a up to e, by its class. Ruled out: the nearest measured value where a window isn't whole;
-// a window that runs past the row.
-fn replace(reading: &[u16], used: &[u16], a: usize, e: usize, w: usize, rule: Rule) -> Replacement
+// The replacement for the gap from a up to e, by its class, or none if its windows are not whole. Ruled out: the nearest measured
+// value where a window isn't whole; a window that runs past the row.
+fn replace(reading: &[u16], used: &[u16], a: usize, e: usize, w: usize, rule: Rule) -> Option<u16>
     requires { (a < e) × (e ≤ length reading.now) × (length reading.now ≤ intervals_most) × Goes reading.now used.now flow_most
-        × (Class.Of w rule ≡ class_of (e - a)) }
-    ensures { result ≡ pick (whole reading.now a e w)
-        (Replacement.Value (taken_by rule (tally_of (window_values used.now a e w)))) Replacement.NotWhole }
+        × (Some (w, rule) ≡ class_of (e - a)) }
+    ensures { result ≡ pick (whole reading.now a e w) (Some (taken_by rule (tally_of (window_values used.now a e w)))) None }
 {
     if !drainage_runs::windows_whole(reading, a, e, w) {
-        return Replacement::NotWhole;
+        return None;
     }
-    let first = a - w;
-    let last = e + w;
-    let Rule::Limit(z) = rule else {
-        return Replacement::Value(
-            drainage_window::mean_of_32(&used[first..a], &used[e..last]) as u16,
-        );
+    let before = &used[a - w..a];
+    let after = &used[e..e + w];
+    let value = match rule {
+        Rule::Mean => drainage_window::mean_of_32(before, after),
+        Rule::Limit(z) => Tally::of(before, after).limit(z),
     };
-    let t = drainage_window::tally_of(&used[first..a], &used[e..last]);
-    Replacement::Value(drainage_window::limit(t, z) as u16)
+    Some(value as u16)
 }
 
 // What the entries of the gap from a up to e hold until outcomes are given: a value goes on, otherwise the outcome that
@@ -84,25 +69,13 @@ fn held(reading: &[u16], used: &[u16], a: usize, e: usize) -> u16
     requires { (a < e) × (e ≤ length reading.now) × (length reading.now ≤ intervals_most) × Goes reading.now used.now flow_most }
     ensures { result ≡ held_for (replacement_of reading.now used.now a e) }
 {
-    let Class::Of(w, rule) = class_of(e - a) else {
+    let Some((w, rule)) = class_of(e - a) else {
         return EXCLUDING + TOO_LONG;
     };
-    let Replacement::Value(v) = replace(reading, used, a, e, w, rule) else {
+    let Some(v) = replace(reading, used, a, e, w, rule) else {
         return EXCLUDING + NOT_WHOLE;
     };
     v
-}
-
-// The same value at every interval from a up to e.
-fn spread(used: &mut [u16], a: usize, e: usize, v: u16)
-    requires { (a ≤ e) × (e ≤ length used.old) }
-    ensures { Continued a e (λ i. v) used.old used.new }
-{
-    let mut i = a;
-    while i < e {
-        used[i] = v;
-        i += 1;
-    }
 }
 
 // Where the search for a gap goes on after the measured entry i: a block further if none of its entries is missing.
@@ -111,10 +84,8 @@ fn next(reading: &[u16], i: usize) -> usize
     requires { (i < length reading.now) × (length reading.now ≤ intervals_most) × (measured_at reading.now i ≡ true) }
     ensures { (i < result) × (result ≤ length reading.now) × (every (result - i) (λ k. measured_at reading.now (i + k)) ≡ true) }
 {
-    if i + BLOCK <= reading.len() {
-        if drainage_runs::measured(reading, i) {
-            return i + BLOCK;
-        }
+    if i + BLOCK <= reading.len() && drainage_runs::measured(reading, i) {
+        return i + BLOCK;
     }
     i + 1
 }
@@ -125,13 +96,13 @@ pub fn fill_gaps(reading: &[u16], used: &mut [u16])
     requires { (length reading.now ≤ intervals_most) × Goes reading.now used.old flow_most }
     ensures { used.new ≡ build (length reading.now) (filled_at reading.now used.old) }
 {
-    let n = reading.len();
     let mut i = 0;
-    while i < n {
+    // Each step goes past a whole gap or block, which a range has no form for.
+    while i < reading.len() {
         if reading[i] == MISSING {
             let e = drainage_runs::gap_end(reading, i);
             let v = held(reading, used, i, e);
-            spread(used, i, e, v);
+            used[i..e].fill(v);
             i = e;
         } else {
             i = next(reading, i);

@@ -6,20 +6,20 @@ use mathlib.Core.Bool.{true, false}
 use native.Mathlib.Omega.{arith}
 use lib.IntN.{pos}
 use lib.ListN.{length, get_or}
-use Rattle.refusals.specs.declared.Verdict.TheVariants.{Clean}
+use Rattle.std.proofs.Common.{Ok}
 use Rattle.protocol.specs.Kinds.{is_kind, misplaced}
 use Rattle.protocol.specs.Ranges.{intervals_most, devices_most, checks_most, drift_right}
 use Rattle.columns.specs.Series.{ChecksLong, Long, InRange, Burnable}
-use Rattle.steps.specs.Step.{verdict_of, Clear, AllClear}
+use Rattle.steps.specs.Step.{step_verdict, Clear, AllClear}
 use Rattle.steps.specs.Steps.{intervals_step, devices_step, lengths_step, mine_step, kinds_step, misplaced_step, checks_step, fuels_step}
-use Rattle.steps.proofs.Verdicts.{clean_clear, Among, clear_of}
+use Rattle.steps.specs.Scans.{Kept}
+use Rattle.steps.proofs.Verdicts.{step_clear, Among, clear_of}
 use Rattle.steps.proofs.Clear.{within_least, within_most, intervals_clear, devices_clear, lengths_clear, mine_clear, kinds_clear, placed_clear, fuels_clear}
 use Rattle.steps.proofs.Clear.{count_clear, position_clear, drift_clear, rise_clear}
 use Rattle.drainage_readings.specs.Readings.{readings_step}
 use Rattle.drainage_readings.proofs.Laws.{readings_clear}
 use Rattle.drainage_judge.specs.Call.{Call}
 use Rattle.drainage_judge.specs.Order.{lengths_of, steps_of, judged}
-use Rattle.drainage_judge.specs.Shape.{shape_steps, Shaped}
 use Rattle.drainage_judge.proofs.Laws.{judged_clear}
 
 -- N and D are within their limits, and every slice that is read is as long as they ask
@@ -94,32 +94,35 @@ module _ (c : Call) (clear : Clear (lengths_step (lengths_of c))) where
   unfolding lengths_of
   content_row_is = same 11 (omega arith)
 
--- where the first steps of the order refuse nothing
-pub shape_sized : (c : Call) → verdict_of (shape_steps c.intervals c.devices c.mine (lengths_of c)) ≡ Clean → Sized c
-shape_sized c e =
-    let a = clean_clear (shape_steps c.intervals c.devices c.mine (lengths_of c)) e in
-    sized c (clear_of a (Among.under (Among.under Among.top))) (clear_of a Among.top) (clear_of a (Among.under Among.top))
+-- where the first steps of the order refuse nothing, the others can look at what is lent
+module _ (c : Call) (n : Ok tt ≡ step_verdict (intervals_step c.intervals)) (d : Ok tt ≡ step_verdict (devices_step c.devices)) where
+  pub in_limits : (c.intervals ≤ intervals_most) × (c.devices ≤ devices_most)
+  in_limits = (within_most _ _ (intervals_clear _ (step_clear n)), within_most _ _ (devices_clear _ (step_clear d)))
 
--- what the values' steps rely on
-pub sized_shaped : (c : Call) → Sized c → Shaped c.intervals c.checks c.series c.fuel
-sized_shaped c x =
-    record {
-      some = x.intervals_least;
-      kept =
-          record {
-            few = omega (arith, x.roomy.counts, x.devices_within);
-            positions = omega (arith, x.roomy.counts, x.roomy.positions);
-            drifts = omega (arith, x.roomy.drifts, x.roomy.positions);
-          };
-      long = subst (Long c.series) (sym x.long.flow) x.long;
-      same_length = x.factor_long;
-    }
+  module _ (l : Ok tt ≡ step_verdict (lengths_step (lengths_of c))) where
+    shape : Sized c
+    shape = sized c (step_clear l) (step_clear n) (step_clear d)
+
+    pub kept : Kept c.checks
+    kept =
+        let x = shape in
+        record {
+          few = omega (arith, x.roomy.counts, x.devices_within);
+          positions = omega (arith, x.roomy.counts, x.roomy.positions);
+          drifts = omega (arith, x.roomy.drifts, x.roomy.positions);
+        }
+
+    pub series_long : (0 < c.intervals) × Long c.series (length c.series.flow)
+    series_long = let x = shape in (x.intervals_least, subst (Long c.series) (sym x.long.flow) x.long)
+
+    pub factors_long : length c.fuel.factor ≡ length c.fuel.quantity
+    factors_long = shape.factor_long
 
 -- ---- a call that is not refused
 
 all_clear : (c : Call) → AllClear (steps_of c) → Unrefused c
 all_clear c a =
-    let intervals : Clear (intervals_step c.intervals) = clear_of a (search (Among.top, Among.under) depth 12) in
+    let intervals : Clear (intervals_step c.intervals) = clear_of a Among.top in
     let devices : Clear (devices_step c.devices) = clear_of a (search (Among.top, Among.under) depth 12) in
     let lengths : Clear (lengths_step (lengths_of c)) = clear_of a (search (Among.top, Among.under) depth 12) in
     let mine : Clear (mine_step c.mine) = clear_of a (search (Among.top, Among.under) depth 12) in
@@ -147,5 +150,5 @@ all_clear c a =
       burnable = fuels_clear c.fuel fuels shape.factor_long;
     }
 
-pub unrefused : (c : Call) → judged c ≡ Clean → Unrefused c
+pub unrefused : (c : Call) → judged c ≡ Ok tt → Unrefused c
 unrefused c e = all_clear c (judged_clear c e)

@@ -1,12 +1,11 @@
 -- Refusals that compute: calls of two devices and three intervals in which some things are wrong.
 -- Assumes nothing.
-use Rattle.std.specs.Prelude.{ℕ, ◌≡◌, refl, true, false, List, [], ◌∷◌, ◌++◌, eqb, pos, negsuc}
+use Rattle.std.specs.Prelude.{ℕ, ◌≡◌, refl, true, false, List, [], ◌∷◌, ◌++◌, eqb, pos, negsuc, Ok, Err}
 use Rattle.rows.specs.Rows.{pick, build}
 use Rattle.columns.specs.Series.{Series, series_of, checks_of, fuel_of}
 use Rattle.protocol.specs.Ranges.{flow_most, quantity_most, factor_most, mark}
 use Rattle.refusals.specs.declared.Refusal.TheVariants.{Lengths, Kind, Misplaced, Check, Fuel, Reading}
 use Rattle.refusals.specs.declared.Column.TheVariants.{Flow, Temp, Press}
-use Rattle.refusals.specs.declared.Verdict.TheVariants.{Clean, Refused}
 use Rattle.refusals.specs.declared.Told.{Told}
 use Rattle.refusals.specs.Table.{told_by, told, nothing}
 use Rattle.steps.specs.Wrong.{wrong_check, wrong_thing, wrong_fuel}
@@ -40,12 +39,12 @@ sample mine kinds counts early flow fuels =
 abbrev flows : List ℕ
 flows = build 6 (λ k. flow_most)
 
-clean : judged (sample 0 (1 ∷ 2 ∷ []) (3 ∷ 0 ∷ 0 ∷ 1 ∷ []) (0 ∷ 1 ∷ 3 ∷ []) flows 64) ≡ Clean
+clean : judged (sample 0 (1 ∷ 2 ∷ []) (3 ∷ 0 ∷ 0 ∷ 1 ∷ []) (0 ∷ 1 ∷ 3 ∷ []) flows 64) ≡ Ok tt
 unfolding judged verdict_of intervals_step devices_step lengths_of lengths_step mine_step kinds_step misplaced_step wrong_check wrong_thing checks_step wrong_reading readings_step wrong_fuel fuels_step
 clean = refl
 
 -- kind 258 is no kind, though its lowest byte is
-wide_kind : judged (sample 0 (258 ∷ 2 ∷ []) (0 ∷ 0 ∷ 0 ∷ 0 ∷ []) (0 ∷ 0 ∷ 0 ∷ []) flows 0) ≡ Refused (Kind 0)
+wide_kind : judged (sample 0 (258 ∷ 2 ∷ []) (0 ∷ 0 ∷ 0 ∷ 0 ∷ []) (0 ∷ 0 ∷ 0 ∷ []) flows 0) ≡ Err (Kind 0)
 unfolding judged verdict_of intervals_step devices_step lengths_of lengths_step mine_step kinds_step
 wide_kind = refl
 
@@ -55,38 +54,38 @@ unfolding judged verdict_of intervals_step devices_step lengths_of lengths_step 
 wide_told = refl
 
 -- kind 6 underground is 6, at a surface mine right
-underground : judged (sample 0 (2 ∷ 6 ∷ []) (0 ∷ 0 ∷ 0 ∷ 0 ∷ []) (0 ∷ 0 ∷ 0 ∷ []) flows 0) ≡ Refused (Misplaced 1)
+underground : judged (sample 0 (2 ∷ 6 ∷ []) (0 ∷ 0 ∷ 0 ∷ 0 ∷ []) (0 ∷ 0 ∷ 0 ∷ []) flows 0) ≡ Err (Misplaced 1)
 unfolding judged verdict_of intervals_step devices_step lengths_of lengths_step mine_step kinds_step misplaced_step
 underground = refl
 
-surface : judged (sample 1 (2 ∷ 6 ∷ []) (0 ∷ 0 ∷ 0 ∷ 0 ∷ []) (0 ∷ 0 ∷ 0 ∷ []) flows 0) ≡ Clean
+surface : judged (sample 1 (2 ∷ 6 ∷ []) (0 ∷ 0 ∷ 0 ∷ 0 ∷ []) (0 ∷ 0 ∷ 0 ∷ []) flows 0) ≡ Ok tt
 unfolding judged verdict_of intervals_step devices_step lengths_of lengths_step mine_step kinds_step misplaced_step wrong_check wrong_thing checks_step wrong_reading readings_step wrong_fuel fuels_step
 surface = refl
 
 -- of 5 at a later device and 6 at an earlier one, 5
-lower_number : judged (sample 0 (6 ∷ 7 ∷ []) (0 ∷ 0 ∷ 0 ∷ 0 ∷ []) (0 ∷ 0 ∷ 0 ∷ []) flows 0) ≡ Refused (Kind 1)
+lower_number : judged (sample 0 (6 ∷ 7 ∷ []) (0 ∷ 0 ∷ 0 ∷ 0 ∷ []) (0 ∷ 0 ∷ 0 ∷ []) flows 0) ≡ Err (Kind 1)
 unfolding judged verdict_of intervals_step devices_step lengths_of lengths_step mine_step kinds_step
 lower_number = refl
 
 -- the CH4 count of device 1
-many_checks : judged (sample 0 (1 ∷ 2 ∷ []) (0 ∷ 0 ∷ 0 ∷ 33 ∷ []) (0 ∷ 0 ∷ 0 ∷ []) flows 0) ≡ Refused (Check 1 32)
+many_checks : judged (sample 0 (1 ∷ 2 ∷ []) (0 ∷ 0 ∷ 0 ∷ 33 ∷ []) (0 ∷ 0 ∷ 0 ∷ []) flows 0) ≡ Err (Check 1 32)
 unfolding judged verdict_of intervals_step devices_step lengths_of lengths_step mine_step kinds_step misplaced_step wrong_check wrong_thing checks_step
 many_checks = refl
 
 -- of two positions that don't increase the later
-same_position : judged (sample 0 (1 ∷ 2 ∷ []) (3 ∷ 0 ∷ 0 ∷ 0 ∷ []) (1 ∷ 2 ∷ 2 ∷ []) flows 0) ≡ Refused (Check 0 2)
+same_position : judged (sample 0 (1 ∷ 2 ∷ []) (3 ∷ 0 ∷ 0 ∷ 0 ∷ []) (1 ∷ 2 ∷ 2 ∷ []) flows 0) ≡ Err (Check 0 2)
 unfolding judged verdict_of intervals_step devices_step lengths_of lengths_step mine_step kinds_step misplaced_step wrong_check wrong_thing checks_step
 same_position = refl
 
 -- the same positions past the count are ignored
-past_count : judged (sample 0 (1 ∷ 2 ∷ []) (2 ∷ 0 ∷ 0 ∷ 0 ∷ []) (1 ∷ 2 ∷ 2 ∷ []) flows 0) ≡ Clean
+past_count : judged (sample 0 (1 ∷ 2 ∷ []) (2 ∷ 0 ∷ 0 ∷ 0 ∷ []) (1 ∷ 2 ∷ 2 ∷ []) flows 0) ≡ Ok tt
 unfolding judged verdict_of intervals_step devices_step lengths_of lengths_step mine_step kinds_step misplaced_step wrong_check wrong_thing checks_step wrong_reading readings_step wrong_fuel fuels_step
 past_count = refl
 
 -- flow 30,001 in interval 1 of device 1
 wrong_flow : judged
     (sample 0 (1 ∷ 2 ∷ []) (0 ∷ 0 ∷ 0 ∷ 0 ∷ []) (0 ∷ 0 ∷ 0 ∷ []) (0 ∷ 0 ∷ 0 ∷ mark ∷ 30001 ∷ 30001 ∷ []) 0)
-    ≡ Refused (Reading Flow 1 1)
+    ≡ Err (Reading Flow 1 1)
 unfolding judged verdict_of intervals_step devices_step lengths_of lengths_step mine_step kinds_step misplaced_step wrong_check wrong_thing checks_step wrong_reading wrong_column readings_step
 wrong_flow = refl
 
@@ -129,7 +128,7 @@ first_offender = (refl, refl, refl, refl)
 
 -- a reading comes before a fuel line, a check before a reading
 between : (wrong_at 6 6 6 6 5 65 ≡ told 21 1 2)
-    × (judged (sample 0 (1 ∷ 2 ∷ []) (0 ∷ 0 ∷ 0 ∷ 33 ∷ []) (0 ∷ 0 ∷ 0 ∷ []) (build 6 (λ k. 30001)) 0) ≡ Refused (Check 1 32))
+    × (judged (sample 0 (1 ∷ 2 ∷ []) (0 ∷ 0 ∷ 0 ∷ 33 ∷ []) (0 ∷ 0 ∷ 0 ∷ []) (build 6 (λ k. 30001)) 0) ≡ Err (Check 1 32))
 unfolding judged verdict_of intervals_step devices_step lengths_of lengths_step mine_step kinds_step misplaced_step wrong_check wrong_thing checks_step wrong_reading wrong_column readings_step
 between = (refl, refl)
 
@@ -137,15 +136,15 @@ between = (refl, refl)
 missing : judged
     (lent 0 (1 ∷ 2 ∷ []) (0 ∷ 0 ∷ 0 ∷ 0 ∷ []) (0 ∷ 0 ∷ 0 ∷ [])
     (series_of (build 6 (λ k. mark)) (build 6 (λ k. mark)) (build 6 (λ k. negsuc 32767)) (build 6 (λ k. 0)) (build 6 (λ k. 3))) 0)
-    ≡ Clean
+    ≡ Ok tt
 unfolding judged verdict_of intervals_step devices_step lengths_of lengths_step mine_step kinds_step misplaced_step wrong_check wrong_thing checks_step wrong_reading wrong_column readings_step wrong_fuel fuels_step
 missing = refl
 
-many_fuels : judged (sample 0 (1 ∷ 2 ∷ []) (0 ∷ 0 ∷ 0 ∷ 0 ∷ []) (0 ∷ 0 ∷ 0 ∷ []) flows 65) ≡ Refused (Fuel 64)
+many_fuels : judged (sample 0 (1 ∷ 2 ∷ []) (0 ∷ 0 ∷ 0 ∷ 0 ∷ []) (0 ∷ 0 ∷ 0 ∷ []) flows 65) ≡ Err (Fuel 64)
 unfolding judged verdict_of intervals_step devices_step lengths_of lengths_step mine_step kinds_step misplaced_step wrong_check wrong_thing checks_step wrong_reading readings_step wrong_fuel fuels_step
 many_fuels = refl
 
 -- a short row is 3, whatever the kinds
-short_row : judged (sample 0 (0 ∷ 0 ∷ []) (0 ∷ 0 ∷ 0 ∷ 0 ∷ []) (0 ∷ 0 ∷ 0 ∷ []) (0 ∷ []) 0) ≡ Refused Lengths
+short_row : judged (sample 0 (0 ∷ 0 ∷ []) (0 ∷ 0 ∷ 0 ∷ 0 ∷ []) (0 ∷ 0 ∷ 0 ∷ []) (0 ∷ []) 0) ≡ Err Lengths
 unfolding judged verdict_of intervals_step devices_step lengths_of lengths_step
 short_row = refl

@@ -1,7 +1,7 @@
 -- The order of test of drainage gas: which steps a call goes through, and what comes of it. The steps are in crates/steps.
 -- Assumes nothing.
-use Rattle.std.specs.Prelude.{ℕ, ◌*◌, ◌≡◌, List, [], ◌∷◌, length}
-use Rattle.refusals.specs.declared.Verdict.{Verdict}
+use Rattle.std.specs.Prelude.{ℕ, ◌*◌, ◌≡◌, List, [], ◌∷◌, length, Result}
+use Rattle.refusals.specs.declared.Refusal.{Refusal}
 use Rattle.refusals.specs.Table.{told_by}
 use Rattle.protocol.specs.Ranges.{device_checks}
 use Rattle.steps.specs.Step.{Step, verdict_of, Tells}
@@ -43,10 +43,10 @@ steps_of c =
     ∷ []
 
 -- what is answered before anything is worked out: nothing is wrong, or the first refusal
-unfoldable pub judged : Call → Verdict
+unfoldable pub judged : Call → Result Unit Refusal
 judged c = verdict_of (steps_of c)
 
 -- what a verdict is promised to be: that one, and told with the number, the device and the place of the table
-pub record Judged (c : Call) (v : Verdict) : Type 0 where
+pub record Judged (c : Call) (v : Result Unit Refusal) : Type 0 where
   pub verdict : v ≡ judged c
   pub told : Tells (steps_of c) (told_by v)

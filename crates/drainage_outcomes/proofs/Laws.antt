@@ -3,14 +3,13 @@
 use Prim.Native.Nat.{ℕ, ◌+◌, ◌-◌, ◌*◌, ◌≤◌, ◌<◌}
 use mathlib.Core.Path.{◌≡◌, refl, sym, ap, ◌∙◌, subst}
 use mathlib.Core.Bool.{Bool, true, false, not}
-use mathlib.Core.List.{List}
 use native.Mathlib.Omega.{arith}
 use lib.Dec.{eqb, ltb}
 use lib.IntN.{ℤ, pos}
-use lib.ListN.{length, get_or}
+use lib.ListN.{get_or}
 use borrow.Author.Tests.{ltb-true, ltb-false, lt-ltb, le-ltb}
 use Rattle.rows.specs.Rows.{pick, both, either, sum_to, count_of}
-use Rattle.rows.proofs.Laws.{length-build, get_or-build}
+use Rattle.rows.proofs.Laws.{get_or-build}
 use Rattle.rows.proofs.Sums.{sum_to_bound, sum_to_ext, counts_add}
 use Rattle.protocol.specs.Ranges.{mark, temp_missing, press_missing, flow_most, content_most}
 use Rattle.protocol.proofs.RangeLaws.{either_false_both, kelvin_bounds, press_bound}
@@ -19,6 +18,7 @@ use Rattle.volume.proofs.Laws.{methane_litres_most, no_flow}
 use Rattle.drainage_runs.specs.Runs.{too_long, not_whole}
 use Rattle.drainage_runs.specs.Private.{excluding}
 use Rattle.drainage_outcomes.specs.declared.Sums.{Sums}
+use Rattle.drainage_outcomes.specs.Rows.{Rows}
 use Rattle.drainage_outcomes.specs.Outcomes.{outcome_of, all_measured, litres_for, held_outcome, entry_of, entry_at, sums_of, Held}
 use Rattle.accounts.specs.Account.{outcome_kinds, counted}
 use Rattle.drainage_outcomes.specs.Outcomes.{Holds, Ready, ReadyAt, Finished}
@@ -218,10 +218,6 @@ pub count_at : (h : Held) (n j : ℕ) → j < outcome_kinds → get_or (sums_of 
 unfolding sums_of
 count_at h n j l = get_or-build outcome_kinds (count_of n (λ k. (entry_at h k).outcome)) j 0 l
 
-pub counts_ten : (h : Held) (n : ℕ) → length (sums_of n (entry_at h)).outcomes ≡ outcome_kinds
-unfolding sums_of
-counts_ten h n = length-build outcome_kinds (count_of n (λ k. (entry_at h k).outcome))
-
 -- and so does the list itself
 pub counts_sum : (h : Held) (n : ℕ) → ReadyAt h n → sum_to outcome_kinds (λ j. get_or (sums_of n (entry_at h)).outcomes j 0) ≡ n
 counts_sum h n x =
@@ -257,11 +253,12 @@ litres_of_used h i = go (counted (entry_at h i).outcome)
     go false = sym (no_flow 0 (get_or h.series.temp i (pos 0)) (get_or h.series.press i 0))
 
 -- the contract permits one result only
-pub finished_unique : (h : Held) (o f c p g d : List ℕ) (s t : Sums) → Finished h o f c s → Finished h p g d t
-    → (o ≡ p) × (f ≡ g) × (c ≡ d) × (s ≡ t)
-finished_unique h o f c p g d s t x y = (
-  x.outcome_built ∙ sym y.outcome_built,
-  x.flow_built ∙ sym y.flow_built,
-  x.content_built ∙ sym y.content_built,
+pub finished_unique : (h : Held) (a b : Rows) (s t : Sums) → Finished h a s → Finished h b t → (a ≡ b) × (s ≡ t)
+finished_unique h a b s t x y = (
+  λ i. record {
+    outcome = (x.outcome_built ∙ sym y.outcome_built) i;
+    flow = (x.flow_built ∙ sym y.flow_built) i;
+    content = (x.content_built ∙ sym y.content_built) i;
+  },
   x.sums ∙ sym y.sums,
 )

@@ -1,6 +1,6 @@
 -- The last pass as a loop's invariant: the rows and sums after the first i intervals. Start, step and end.
 -- Assumes nothing.
-use Prim.Native.Nat.{ℕ, suc, ◌+◌, ◌-◌, ◌*◌, ◌≤◌, ◌<◌}
+use Prim.Native.Nat.{ℕ, suc, ◌+◌, ◌*◌, ◌≤◌, ◌<◌}
 use mathlib.Core.Path.{◌≡◌, refl, sym, ap, ◌∙◌, subst}
 use mathlib.Core.Bool.{Bool, true}
 use mathlib.Core.List.{List, ◌++◌}
@@ -9,17 +9,16 @@ use native.Mathlib.Omega.{arith}
 use mir.Syntax.{w64}
 use mir.Val.{Fits}
 use lib.IntN.{ℤ, pos}
-use lib.ListN.{length, get_or, drop, set, length-set, length-append, length-drop}
+use lib.ListN.{length, get_or, drop, set, length-set}
 use lib.Seq.{drop-cons, get_or_at, set-get_or, ext_get_or}
 use Rattle.rows.specs.Rows.{build, sum_to, count_of}
 use Rattle.rows.proofs.Laws.{build_done, length-build, get_or-build, get_or_inside}
 use Rattle.rows.proofs.Sums.{count_most}
 use Rattle.rows.proofs.More.{row_more, sum_more, count_more}
 use Rattle.protocol.specs.Ranges.{mark, ppm_most}
-use Rattle.columns.specs.Series.{Within}
-use Rattle.columns.proofs.Laws.{within}
 use Rattle.volume.specs.Volume.{methane_litres, Inside, litres_most}
 use Rattle.drainage_outcomes.specs.declared.Entry.{Entry}
+use Rattle.drainage_outcomes.specs.Rows.{rows_of}
 use Rattle.drainage_outcomes.specs.Outcomes.{all_measured, entry_of, entry_at, sums_of, Held, Ready, ReadyAt, Finished}
 use Rattle.accounts.specs.Account.{outcome_kinds}
 use Rattle.drainage_outcomes.proofs.Laws.{outcome_for, measured_outcome, counted_inside, counted_entry, outcome_of_ten, litres_of_entry, methane_to}
@@ -121,9 +120,6 @@ module _ {h : Held} {n : ℕ} {old o f c counts : List ℕ} {methane i : ℕ} (x
   pub going_few : i < n → (e : Entry) → e ≡ entry_at h i → e.outcome < 10
   going_few l e q = subst (λ (k : ℕ). k < 10) (sym (ap (λ (y : Entry). y.outcome) q)) (outcome_of_ten h n x.ready i l)
 
-  pub going_slot : i < n → (e : Entry) → e ≡ entry_at h i → Fits w64 e.outcome × Fits w64 (e.outcome * 8)
-  going_slot l e q = let k : e.outcome < 10 = going_few l e q in (record { fits = omega arith }, record { fits = omega arith })
-
   pub going_more : i < n → (e : Entry) → e ≡ entry_at h i
       → Going h n old (set o i e.outcome) (set f i e.flow) (set c i e.content) (set counts e.outcome (get_or counts e.outcome 0 + 1))
       (methane + e.litres) (i + 1)
@@ -178,17 +174,7 @@ module _ {h : Held} {n : ℕ} {old o f c counts : List ℕ} {methane i : ℕ} (x
       let m : n ≤ 35136 = x.ready.few in
       record { fits = omega arith }
 
-  pub length_rows : (length o ≡ n) × (length f ≡ n) × (length c ≡ n)
-  length_rows = (
-    ap length x.outcome_built ∙ built old (λ k. (entry_at h k).outcome) x.old_length,
-    ap length x.flow_built ∙ built h.held_flow (λ k. (entry_at h k).flow) x.ready.flow_rows,
-    ap length x.content_built ∙ built h.held_content (λ k. (entry_at h k).content) x.ready.content_rows,
-  )
-    where
-      built : (base : List ℕ) (g : ℕ → ℕ) → length base ≡ n → length (build i g ++ drop i base) ≡ n
-      built base g e = let w : i ≤ n = x.within in simp (length-append, length-build, length-drop) (omega arith)
-
-  pub going_all : n ≤ i → Finished h o f c (record { outcomes = counts; methane = methane })
+  pub going_all : n ≤ i → Finished h (rows_of o f c) (record { outcomes = counts; methane = methane })
   unfolding sums_of
   going_all l =
       let size : length h.series.flow ≡ n = x.ready.long.flow in
@@ -212,21 +198,3 @@ module _ {h : Held} {n : ℕ} {old o f c counts : List ℕ} {methane i : ℕ} (x
           x.each j w
           ∙ ap (λ (m : ℕ). count_of m (λ k. (entry_at h k).outcome) j) at
           ∙ sym (get_or-build 10 (count_of (length h.series.flow) (λ k. (entry_at h k).outcome)) j 0 w))
-
-  -- addresses within the rows, and the next turn
-  pub index_fits : i < n → Fits w64 (i * 2) × Fits w64 (i * 4)
-  index_fits l = let m : n ≤ 35136 = x.ready.few in (record { fits = omega arith }, record { fits = omega arith })
-
-  pub next_fits : i < n → Fits w64 (i + 1)
-  next_fits l = let m : n ≤ 35136 = x.ready.few in record { fits = omega arith }
-
-  pub turns_less : i < n → n - (i + 1) < n - i
-  turns_less l = omega arith
-
-  pub inside_series : i < n → Within h.series i
-  inside_series = within h.series n i x.ready.long
-
-  pub inside_rows : i < n → (i < length o) × (i < length f) × (i < length c)
-  inside_rows l =
-      let z = length_rows in
-      (subst (λ (m : ℕ). i < m) (sym z.0) l, subst (λ (m : ℕ). i < m) (sym z.1) l, subst (λ (m : ℕ). i < m) (sym z.2) l)

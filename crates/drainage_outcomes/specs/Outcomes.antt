@@ -8,6 +8,7 @@ use Rattle.volume.specs.Volume.{methane_litres}
 use Rattle.accounts.specs.Account.{outcome_kinds, counted}
 use Rattle.drainage_runs.specs.Runs.{too_long, not_whole}
 use Rattle.drainage_runs.specs.Private.{excluding}
+use Rattle.drainage_outcomes.specs.Rows.{Rows}
 use Rattle.drainage_outcomes.specs.declared.Entry.{Entry}
 use Rattle.drainage_outcomes.specs.declared.Sums.{Sums}
 
@@ -45,6 +46,10 @@ pub record Held : Type 0 where
   pub series : Series
   pub held_flow : List ℕ
   pub held_content : List ℕ
+
+-- made of the series and of rows that hold that
+abbrev pub held_by : Series → Rows → Held
+held_by series rows = record { series = series; held_flow = rows.flow; held_content = rows.content }
 
 -- what a missing reading comes to, by what its gap's entries hold: its replacement's outcome, or the one that excludes it
 abbrev pub held_outcome : ℕ → ℕ → ℕ
@@ -92,10 +97,10 @@ pub record ReadyAt (h : Held) (n : ℕ) : Type 0 where
       (get_or h.series.press i 0) (get_or h.held_flow i mark) (get_or h.held_content i mark)
 
 -- the three rows and the sums after the last pass
-pub record Finished (h : Held) (outcome_row flow_row content_row : List ℕ) (given : Sums) : Type 0 where
-  pub outcome_built : outcome_row ≡ build (length h.series.flow) (λ i. (entry_at h i).outcome)
-  pub flow_built : flow_row ≡ build (length h.series.flow) (λ i. (entry_at h i).flow)
-  pub content_built : content_row ≡ build (length h.series.flow) (λ i. (entry_at h i).content)
+pub record Finished (h : Held) (left : Rows) (given : Sums) : Type 0 where
+  pub outcome_built : left.outcome ≡ build (length h.series.flow) (λ i. (entry_at h i).outcome)
+  pub flow_built : left.flow ≡ build (length h.series.flow) (λ i. (entry_at h i).flow)
+  pub content_built : left.content ≡ build (length h.series.flow) (λ i. (entry_at h i).content)
   pub sums : given ≡ sums_of (length h.series.flow) (entry_at h)
 
 -- the order decides: stopped before everything, no record of status before a missing temperature, and so on

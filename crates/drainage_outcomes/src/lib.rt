@@ -4,25 +4,36 @@
 ghost use Rattle.std.specs.Prelude.{ℕ, ◌≤◌, ◌<◌, ◌≡◌, eqb, length};
 ghost use Rattle.rows.specs.Rows.{pick, either};
 ghost use Rattle.protocol.specs.Ranges.{temp_missing, press_missing};
-ghost use Rattle.columns.specs.Series.{series_now, series_at};
+ghost use Rattle.columns.specs.Lent.{series_in};
+ghost use Rattle.drainage_outcomes.specs.Rows.{rows_in, rows_left};
 ghost use Rattle.drainage_outcomes.specs.Outcomes.{
   outcome_of,
   all_measured,
   held_outcome,
   entry_of,
-  entry_at,
   sums_of,
-  Held,
+  held_by,
   Ready,
   ReadyAt,
   Finished,
 };
 
 use accounts::OUTCOMES;
+use columns::Series;
 use drainage_runs::EXCLUDING;
 use protocol::MISSING;
+use volume::Gas;
+
+// The result rows of a device, or of all devices one after the other (rule 3.11): outcomes, and the flow and CH4 content used.
+#[derive(Drop)]
+pub struct Rows<'a> {
+    pub outcome: &'a mut [u8],
+    pub flow: &'a mut [u16],
+    pub content: &'a mut [u16],
+}
 
 // One interval as recorded.
+// The status stays a number: the series that C lends has it so, and rule 3.4 names it so.
 #[derive(Clone, Copy)]
 pub struct Readings {
     pub flow: u16,
@@ -32,6 +43,7 @@ pub struct Readings {
     pub status: u8,
 }
 
+// The outcome stays a number: the row that C reads holds it, and gaps hold it above EXCLUDING.
 #[derive(Clone, Copy)]
 pub struct Entry {
     pub outcome: u8,
@@ -47,6 +59,7 @@ pub struct Sums {
 }
 
 // Ruled out: outcomes 5 and 6 exchanged; a missing reading counted under status 1.
+#[tactic(auto, unfolding(crate::specs::Outcomes::outcome_of))]
 pub fn outcome(
     status: u8,
     lacking: bool,
@@ -99,94 +112,86 @@ fn held_outcome(counted: u8, held: u16) -> u8
     }
 }
 
-// Temperature or pressure missing.
-fn lacks(temp: i16, press: u32) -> bool
-    ensures { result ≡ either (temp_missing temp) (press_missing press) }
-{
-    if protocol::temp_missing(temp) {
-        return true;
+impl Readings {
+    // Temperature or pressure missing.
+    fn lacks(self) -> bool
+        ensures { result ≡ either (temp_missing self.temp) (press_missing self.press) }
+    {
+        protocol::temp_missing(self.temp) || self.press == 0
     }
-    press == 0
-}
 
-// Whether an interval is counted as outcome 0: the device ran and nothing is missing. Ruled out: status 3 taken for running; a pressure of 0 taken
-// for a reading.
-fn all_measured(x: Readings) -> bool
-    ensures { result ≡ all_measured x.flow x.content x.temp x.press x.status }
-{
-    if x.status == 0 {
-        return false;
+    // Whether an interval is counted as outcome 0: the device ran and nothing is missing. Ruled out: status 3 taken for running; a
+    // pressure of 0 taken for a reading.
+    #[tactic(auto, unfolding(crate::specs::Outcomes::all_measured))]
+    fn all_measured(self) -> bool
+        ensures { result ≡ all_measured self.flow self.content self.temp self.press self.status }
+    {
+        !(self.status == 0
+            || self.status == 3
+            || self.lacks()
+            || self.flow == MISSING
+            || self.content == MISSING)
     }
-    if x.status == 3 {
-        return false;
-    }
-    if lacks(x.temp, x.press) {
-        return false;
-    }
-    if x.flow == MISSING {
-        return false;
-    }
-    x.content != MISSING
-}
 
-// One interval. Ruled out: an excluded interval with a value; litres without the content.
-pub fn settle(x: Readings, flow_held: u16, content_held: u16) -> Entry
-    requires { Ready x.flow x.content x.temp x.press flow_held content_held }
-    ensures { result ≡ entry_of x.flow x.content x.temp x.press x.status flow_held content_held }
-{
-    let by_flow = held_outcome(1, flow_held);
-    let by_content = held_outcome(2, content_held);
-    let o = outcome(
-        x.status,
-        lacks(x.temp, x.press),
-        x.flow == MISSING,
-        x.content == MISSING,
-        by_flow,
-        by_content,
-    );
-    if o < 3 {
-        let litres = volume::methane_litres(flow_held, content_held, x.temp, x.press);
-        Entry {
-            outcome: o,
-            flow: flow_held,
-            content: content_held,
-            litres,
-        }
-    } else {
-        Entry {
-            outcome: o,
-            flow: 0,
-            content: 0,
-            litres: 0,
+    // One interval. Ruled out: an excluded interval with a value; litres without the content.
+    pub fn settle(self, flow_held: u16, content_held: u16) -> Entry
+        requires { Ready self.flow self.content self.temp self.press flow_held content_held }
+        ensures { result ≡ entry_of self.flow self.content self.temp self.press self.status flow_held content_held }
+    {
+        let o = outcome(
+            self.status,
+            self.lacks(),
+            self.flow == MISSING,
+            self.content == MISSING,
+            held_outcome(1, flow_held),
+            held_outcome(2, content_held),
+        );
+        if o < 3 {
+            let gas = Gas {
+                flow: flow_held,
+                content: content_held,
+                temp: self.temp,
+                press: self.press,
+            };
+            Entry {
+                outcome: o,
+                flow: flow_held,
+                content: content_held,
+                litres: gas.litres(),
+            }
+        } else {
+            Entry {
+                outcome: o,
+                flow: 0,
+                content: 0,
+                litres: 0,
+            }
         }
     }
 }
 
 // Every interval's outcome and values used, in place of what the rows held. Ruled out: a count that is not counted; a row
 // left as it was after its first entry.
-pub fn finish(
-    flow: &[u16],
-    content: &[u16],
-    temp: &[i16],
-    press: &[u32],
-    status: &[u8],
-    outcome: &mut [u8],
-    flow_used: &mut [u16],
-    content_used: &mut [u16],
-) -> Sums
-    requires { ReadyAt
-        (record { series = series_now flow content temp press status; held_flow = flow_used.old; held_content = content_used.old })
-        (length flow.now)
-        × (length outcome.old ≡ length flow.now) }
-    ensures { Finished
-        (record { series = series_at flow content temp press status; held_flow = flow_used.old; held_content = content_used.old })
-        outcome.new flow_used.new content_used.new result }
+pub fn finish(series: &Series<'_>, rows: Rows<'_>) -> Sums
+    requires { ReadyAt (held_by (series_in series.now) (rows_in rows)) (length series.now.flow.now)
+        × (length rows.outcome.now ≡ length series.now.flow.now) }
+    ensures { Finished (held_by (series_in series.now) (rows_in rows.entry)) (rows_left rows.exit) result }
 {
-    let n = flow.len();
+    let Rows {
+        outcome,
+        flow: flow_used,
+        content: content_used,
+    } = rows;
+    let Series {
+        flow,
+        content,
+        temp,
+        press,
+        status,
+    } = *series;
     let mut outcomes = [0u64; OUTCOMES];
     let mut methane = 0;
-    let mut i = 0;
-    while i < n {
+    for i in 0..flow.len() {
         let x = Readings {
             flow: flow[i],
             content: content[i],
@@ -194,23 +199,24 @@ pub fn finish(
             press: press[i],
             status: status[i],
         };
-        if all_measured(x) {
+        if x.all_measured() {
             // The commonest interval: its values stand in the rows already.
-            let litres = volume::methane_litres(flow_used[i], content_used[i], x.temp, x.press);
+            let gas = Gas {
+                flow: flow_used[i],
+                content: content_used[i],
+                temp: x.temp,
+                press: x.press,
+            };
             outcome[i] = 0;
             outcomes[0] += 1;
-            methane = methane + litres;
-            i += 1;
+            methane += gas.litres();
         } else {
-            let e = settle(x, flow_used[i], content_used[i]);
-            let o = e.outcome;
-            outcome[i] = o;
+            let e = x.settle(flow_used[i], content_used[i]);
+            outcome[i] = e.outcome;
             flow_used[i] = e.flow;
             content_used[i] = e.content;
-            let k = o as usize;
-            outcomes[k] += 1;
-            methane = methane + e.litres;
-            i += 1;
+            outcomes[e.outcome as usize] += 1;
+            methane += e.litres;
         }
     }
     Sums { outcomes, methane }

@@ -1,4 +1,4 @@
 pub mod Optional
-pub mod Widths
 pub mod Lines
 pub mod Settled
+pub mod Widths

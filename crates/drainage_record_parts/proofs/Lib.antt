@@ -1,4 +1,5 @@
 pub mod Steps
+pub mod OneInstrument
 pub mod OneDevice
 pub mod DevicesLoop
 pub mod Settled

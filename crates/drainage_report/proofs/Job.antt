@@ -1,4 +1,5 @@
 -- The whole job from what its parts promise: the reader's answer, quantification's, and what was written. Assumes nothing.
+use Rattle.std.proofs.Common.{Result, Ok, Err}
 use Prim.Native.Nat.{ℕ, ◌*◌, ◌≤◌, ◌<◌}
 use mathlib.Core.Path.{◌≡◌, refl, sym, ap, ◌∙◌, subst}
 use mathlib.Core.Bool.{Bool, true, false}
@@ -15,22 +16,22 @@ use Rattle.columns.specs.Series.{Room, series_of, series_take, checks_take, fuel
 use Rattle.columns.proofs.Laws.{each_as_long}
 use Rattle.refusals.specs.declared.Refusal.{Refusal}
 use Rattle.refusals.specs.declared.Told.{Told}
-use Rattle.refusals.specs.Table.{told_of}
+use Rattle.refusals.specs.Table.{told_of, told_by}
 use Rattle.drainage_judge.specs.Call.{Call}
 use Rattle.drainage_judge.specs.Order.{judged}
 use Rattle.steps.proofs.Clear.{within_most}
 use Rattle.drainage.specs.Promise.{answer_by, Settled}
 use Rattle.drainage.proofs.Settling.{settled_call}
-use Rattle.accounts.specs.declared.Answer.{Answer}
+use Rattle.figures.specs.declared.Figures.{Figures}
 use Rattle.drainage_record_form.specs.Field.{Field}
 use Rattle.drainage_record_form.specs.Plan.{Line, line_is}
 use Rattle.drainage_record_form.specs.Rows.{Rows, with_series, store, stored, room_of, lesser}
 use Rattle.drainage_record_form.specs.File.{Record, Limits, file}
 use Rattle.drainage_record_form.proofs.Covered.{SameLong, covered, stored_long}
-use Rattle.drainage_record.specs.Read.{told_in, ReadRight, RecordRead, Outside, NoRoom, Wrong, Refused}
+use Rattle.drainage_record.specs.Read.{ReadRight, RecordRead, Outside, NoRoom, Wrong, Refused}
 use Rattle.drainage_record.specs.declared.Header.{Header}
-use Rattle.drainage_record.specs.declared.ReadAnswer.{ReadAnswer}
-use Rattle.drainage_report.specs.Quantified.{Roomy, ResultRows, Quantified, part_of, parts_of, parts_after, call_of, answer_to}
+use Rattle.drainage_outcomes.specs.Rows.{Rows as ResultRows}
+use Rattle.drainage_report.specs.Quantified.{Roomy, Quantified, part_of, parts_of, parts_after, call_of, answer_to}
 use Rattle.drainage_report.specs.Report.{refusal_text, printed, Lent, reader_rows, output_of, results_of, AsLong, Whatever, Reported}
 use Rattle.drainage_report.proofs.Laws.{lesser_first}
 
@@ -101,14 +102,14 @@ module _ (t : List ℕ) (l : Lent) (after : Rows) (h : Header) (x : RecordRead t
         series = subst (Room after.series) (sym m) (each_as_long (λ e. h.intervals * h.devices ≤ e) k.series room_of_lem);
       }
 
-pub ready_for : (t : List ℕ) (l : Lent) (after : Rows) (h : Header) (a : ReadAnswer) → a ≡ ReadAnswer.Record h → ReadRight t (reader_rows l) after a → Roomy h
+pub ready_for : (t : List ℕ) (l : Lent) (after : Rows) (h : Header) (a : Result Header Refusal) → a ≡ Ok h → ReadRight t (reader_rows l) after a → Roomy h
     after
 ready_for t l after h a e r = ready t l after h (subst (ReadRight t (reader_rows l) after) e r)
 
 -- Reading leaves each row as long as it was.
-pub read_long : (t : List ℕ) (before after : Rows) (a : ReadAnswer) → ReadRight t before after a → SameLong after before
-read_long t before after (ReadAnswer.Record h) x = subst (λ (r : Rows). SameLong r before) (sym x.rows) (stored_long x.lines before)
-read_long t before after (ReadAnswer.Refused r) x = refused_long x
+pub read_long : (t : List ℕ) (before after : Rows) (a : Result Header Refusal) → ReadRight t before after a → SameLong after before
+read_long t before after (Ok h) x = subst (λ (r : Rows). SameLong r before) (sym x.rows) (stored_long x.lines before)
+read_long t before after (Err r) x = refused_long x
   where
     refused_long : {r : Refusal} → Refused t before after r → SameLong after before
     refused_long (Refused.intervals y) = subst (λ (w : Rows). SameLong w before) (sym y.same) (stored_long [] before)
@@ -228,18 +229,18 @@ module _ (t : List ℕ) (k l : Lent) (e : Serves k l) where
   answer_other after h x = ap (λ (c : Call). answer_by (judged c) c) (sym (call_other after h x))
 
   told_other : (r : Refusal) (rows : Rows) → Refused t (reader_rows k) rows r → Whatever t k (refusal_text (told_of r))
-  told_other r rows y = record { answer = ReadAnswer.Refused r; rows = rows; read = y; output = refl }
+  told_other r rows y = record { answer = Err r; rows = rows; read = y; output = refl }
 
   -- Whoever is not refused for want of room gets the same output from k.
-  pub served : (after : Rows) (a : ReadAnswer) → ReadRight t (reader_rows l) after a → ((told_in a).number ≡ 13 → ⊥) → Whatever t k (output_of a after l)
-  served after (ReadAnswer.Record h) x roomy =
+  pub served : (after : Rows) (a : Result Header Refusal) → ReadRight t (reader_rows l) after a → ((told_by a).number ≡ 13 → ⊥) → Whatever t k (output_of a after l)
+  served after (Ok h) x roomy =
       record {
-        answer = ReadAnswer.Record h;
+        answer = Ok h;
         rows = stored x.lines (reader_rows k);
         read = record_other x;
         output = ap printed (answer_other after h x);
       }
-  served after (ReadAnswer.Refused r) x roomy = refused_other x roomy
+  served after (Err r) x roomy = refused_other x roomy
     where
       refused_other : {r : Refusal} → Refused t (reader_rows l) after r → ((told_of r).number ≡ 13 → ⊥) → Whatever t k (refusal_text (told_of r))
       refused_other (Refused.intervals y) roomy = told_other Refusal.Intervals (reader_rows k) (Refused.intervals (outside_other y))
@@ -276,18 +277,18 @@ module _ (t : List ℕ) (k l : Lent) (e : AsLong k l) where
       }
 
   -- What stands in rows of the same lengths does not matter.
-  pub whatever_else : (after : Rows) (a : ReadAnswer) → ReadRight t (reader_rows l) after a → Whatever t k (output_of a after l)
-  whatever_else after (ReadAnswer.Record h) x = served t k l (as_long_serves k l e) after (ReadAnswer.Record h) x (λ q. omega (arith, q))
-  whatever_else after (ReadAnswer.Refused r) x = refused_else x
+  pub whatever_else : (after : Rows) (a : Result Header Refusal) → ReadRight t (reader_rows l) after a → Whatever t k (output_of a after l)
+  whatever_else after (Ok h) x = served t k l (as_long_serves k l e) after (Ok h) x (λ q. omega (arith, q))
+  whatever_else after (Err r) x = refused_else x
     where
       refused_else : {r : Refusal} → Refused t (reader_rows l) after r → Whatever t k (refusal_text (told_of r))
       refused_else (Refused.room y) = told_other t k l (as_long_serves k l e) Refusal.Room (reader_rows k) (Refused.room (no_room y))
       refused_else (Refused.intervals y) =
-          served t k l (as_long_serves k l e) after (ReadAnswer.Refused Refusal.Intervals) (Refused.intervals y) (λ q. omega (arith, q))
+          served t k l (as_long_serves k l e) after (Err Refusal.Intervals) (Refused.intervals y) (λ q. omega (arith, q))
       refused_else (Refused.devices y) =
-          served t k l (as_long_serves k l e) after (ReadAnswer.Refused Refusal.Devices) (Refused.devices y) (λ q. omega (arith, q))
+          served t k l (as_long_serves k l e) after (Err Refusal.Devices) (Refused.devices y) (λ q. omega (arith, q))
       refused_else (Refused.line {l = n} y) =
-          served t k l (as_long_serves k l e) after (ReadAnswer.Refused (Refusal.Line n)) (Refused.line y) (λ q. omega (arith, q))
+          served t k l (as_long_serves k l e) after (Err (Refusal.Line n)) (Refused.line y) (λ q. omega (arith, q))
 
 -- ---- the job
 
@@ -300,7 +301,7 @@ abbrev pub lent_as : Rows → ResultRows → Lent
 lent_as r results = record { series = r.series; results = results }
 
 module _ (t : List ℕ) (l : Lent) (rows : Rows) (old new : List ℕ) (n : ℕ) where
-  pub reported : (a : ReadAnswer) → ReadRight t (reader_rows l) rows a → Leads (output_of a rows l) old new n
+  pub reported : (a : Result Header Refusal) → ReadRight t (reader_rows l) rows a → Leads (output_of a rows l) old new n
       → Reported t l (lent_as rows (results_of a rows l)) old new n
   reported a r w =
       record {
@@ -314,15 +315,15 @@ module _ (t : List ℕ) (l : Lent) (rows : Rows) (old new : List ℕ) (n : ℕ) 
       }
 
   -- The reader refused.
-  pub reported_refusal : (a : ReadAnswer) (x : Told) → ((h : Header) → a ≡ ReadAnswer.Record h → ⊥) → ReadRight t (reader_rows l) rows a → x ≡ told_in a
+  pub reported_refusal : (a : Result Header Refusal) (x : Told) → ((h : Header) → a ≡ Ok h → ⊥) → ReadRight t (reader_rows l) rows a → x ≡ told_by a
       → Leads (refusal_text x) old new n → Reported t l (lent_as rows l.results) old new n
-  reported_refusal (ReadAnswer.Record h) x none r e w = absurd (none h refl)
-  reported_refusal (ReadAnswer.Refused y) x none r e w =
-      reported (ReadAnswer.Refused y) r (subst (λ (z : Told). Leads (refusal_text z) old new n) e w)
+  reported_refusal (Ok h) x none r e w = absurd (none h refl)
+  reported_refusal (Err y) x none r e w =
+      reported (Err y) r (subst (λ (z : Told). Leads (refusal_text z) old new n) e w)
 
   -- A record was read and quantified.
-  pub reported_record : (a : ReadAnswer) (h : Header) (b : Answer) (results : ResultRows) → a ≡ ReadAnswer.Record h → ReadRight t (reader_rows l) rows a
+  pub reported_record : (a : Result Header Refusal) (h : Header) (b : Result Figures Refusal) (results : ResultRows) → a ≡ Ok h → ReadRight t (reader_rows l) rows a
       → Quantified h rows l.results results b → Leads (printed b) old new n → Reported t l (lent_as rows results) old new n
   reported_record a h b results e r q w =
       subst (λ (x : ResultRows). Reported t l (lent_as rows x) old new n) (sym q.results)
-      (reported (ReadAnswer.Record h) (subst (ReadRight t (reader_rows l) rows) e r) (subst (λ (x : Answer). Leads (printed x) old new n) q.answer w))
+      (reported (Ok h) (subst (ReadRight t (reader_rows l) rows) e r) (subst (λ (x : Result Figures Refusal). Leads (printed x) old new n) q.answer w))

@@ -1,4 +1,5 @@
 -- What is printed: how long it can be, and that it stands at the buffer's start. Assumes nothing.
+use Rattle.std.proofs.Common.{Result, Ok, Err}
 use Prim.Native.Nat.{ℕ, ◌+◌, ◌*◌, ◌≤◌, ◌<◌}
 use mathlib.Core.Path.{◌≡◌, refl, sym, ap, ◌∙◌, subst}
 use mathlib.Core.Bool.{Bool, true, false}
@@ -18,9 +19,7 @@ use Rattle.text.proofs.Writing.{put-join, put_leads, line_length}
 use Rattle.sheet_text.specs.Sheet.{sheet_most}
 use Rattle.sheet_text.specs.Write as Write
 use Rattle.sheet_text.specs.Write.{WriteRight}
-use Rattle.sheet_text.specs.declared.WriteAnswer.{WriteAnswer}
 use Rattle.figures.specs.declared.Figures.{Figures}
-use Rattle.accounts.specs.declared.Answer.{Answer}
 use Rattle.refusals.specs.declared.Refusal.{Refusal}
 use Rattle.refusals.specs.declared.Told.{Told}
 use Rattle.refusals.specs.Table.{told, told_of}
@@ -33,7 +32,8 @@ use Rattle.drainage_devices.specs.Devices.{Results}
 use Rattle.drainage.specs.Promise.{Settled, answer_by, results_by}
 use Rattle.drainage_record_form.specs.Rows.{Rows, lesser}
 use Rattle.drainage_record.specs.declared.Header.{Header}
-use Rattle.drainage_report.specs.Quantified.{ResultRows, Quantified, part_of, parts_of, put_back, call_of, answer_to, parts_after}
+use Rattle.drainage_outcomes.specs.Rows.{Rows as ResultRows}
+use Rattle.drainage_report.specs.Quantified.{Quantified, part_of, parts_of, put_back, call_of, answer_to, parts_after}
 use Rattle.drainage_report.specs.Report.{refusal_text, printed}
 
 -- No line with a number of 64 bits is longer than its key and 21 bytes.
@@ -66,19 +66,19 @@ module _ (number device place : ℕ) (old one two new : List ℕ) (p q n : ℕ)
 
 -- ---- the text of an answer
 
-module _ (a : Answer) (old new : List ℕ) (n : ℕ) where
-  pub sheet_leads : (f : Figures) (w : WriteAnswer) → a ≡ Answer.Accepted f → w ≡ WriteAnswer.Written n → WriteRight f old new w → Leads (printed a) old new n
-  sheet_leads f w e g r = subst (λ (x : Answer). Leads (printed x) old new n) (sym e) (subst (WriteRight f old new) g r)
+module _ (a : Result Figures Refusal) (old new : List ℕ) (n : ℕ) where
+  pub sheet_leads : (f : Figures) (w : Result ℕ Refusal) → a ≡ Ok f → w ≡ Ok n → WriteRight f old new w → Leads (printed a) old new n
+  sheet_leads f w e g r = subst (λ (x : Result Figures Refusal). Leads (printed x) old new n) (sym e) (subst (WriteRight f old new) g r)
 
   -- A sheet has at most sheet_most bytes.
-  pub never_short : (f : Figures) (w : WriteAnswer) → (k : Refusal) → w ≡ WriteAnswer.Refused k → WriteRight f old new w → sheet_most ≤ length old → ⊥
+  pub never_short : (f : Figures) (w : Result ℕ Refusal) → (k : Refusal) → w ≡ Err k → WriteRight f old new w → sheet_most ≤ length old → ⊥
   never_short f w k e x h = impossible (subst (WriteRight f old new) e x)
     where
       impossible : {r : Refusal} → Write.Refused f old new r → ⊥
       impossible (Write.Refused.short_buffer s) = omega (arith, s.short, s.most)
 
-  pub answer_leads : (r : Refusal) (x : Told) → a ≡ Answer.Refused r → x ≡ told_of r → Leads (refusal_text x) old new n → Leads (printed a) old new n
-  answer_leads r x e y l = subst (λ (b : Answer). Leads (printed b) old new n) (sym e) (subst (λ (z : Told). Leads (refusal_text z) old new n) y l)
+  pub answer_leads : (r : Refusal) (x : Told) → a ≡ Err r → x ≡ told_of r → Leads (refusal_text x) old new n → Leads (printed a) old new n
+  answer_leads r x e y l = subst (λ (b : Result Figures Refusal). Leads (printed b) old new n) (sym e) (subst (λ (z : Told). Leads (refusal_text z) old new n) y l)
 
 -- ---- the call that a record makes
 
@@ -125,7 +125,7 @@ module _ (h : Header) (r : Rows) (s : ResultRows) (o p q : ℕ)
   unfolding call_of
   call_is = λ i. call_with h r (as_long s.outcome o eo i) (as_long s.flow p ep i) (as_long s.content q eq i)
 
-  pub quantified_is : (after : Results) (a : Answer)
+  pub quantified_is : (after : Results) (a : Result Figures Refusal)
       → Settled (call_with h r (length (take o s.outcome)) (length (take p s.flow)) (length (take q s.content))) parts after a
       → Quantified h r s
       (record {

@@ -1,6 +1,7 @@
 -- The promise settles the output and every lent entry, a text longer than any record file is answered by its beginning, and rows
 -- longer than a record needs make no difference.
 -- Assumes nothing.
+use Rattle.std.proofs.Common.{Result, Ok, Err}
 use Prim.Native.Nat.{ℕ, ◌+◌, ◌*◌, ◌<◌, ◌≤◌}
 use mathlib.Core.Path.{◌≡◌, refl, sym, ap, ◌∙◌, subst}
 use mathlib.Core.Bool.{Bool, true, false}
@@ -12,12 +13,12 @@ use borrow.Author.Tests.{leb-true}
 use Rattle.rows.specs.Rows.{pick}
 use Rattle.text.specs.Answer.{Leads}
 use Rattle.refusals.specs.declared.Refusal.{Refusal}
-use Rattle.refusals.specs.Table.{told_of}
+use Rattle.refusals.specs.Table.{told_of, told_by}
 use Rattle.drainage_record_form.specs.Rows.{room_of, lesser}
 use Rattle.drainage_record_form.specs.File.{Headed}
 use Rattle.drainage_record_form.proofs.Files.{headed_once}
-use Rattle.drainage_record.specs.Read.{told_in, ReadRight, Refused}
-use Rattle.drainage_record.specs.declared.ReadAnswer.{ReadAnswer}
+use Rattle.drainage_record.specs.Read.{ReadRight, Refused}
+use Rattle.drainage_record.specs.declared.Header.{Header}
 use Rattle.drainage_record.proofs.Beginning.{read_cut}
 use Rattle.drainage_record.proofs.Settled.{read_once}
 use Rattle.drainage_report.specs.Report.{Lent, reader_rows, output_of, results_of, AsLong, Whatever, Reported}
@@ -94,12 +95,12 @@ longer_serves k l own other =
 
 -- Longer rows give the same output, unless the answer is 13. So a program may lend rows that are just as long as the record.
 pub report_longer : (t : List ℕ) (k l after : Lent) (old new : List ℕ) (n : ℕ) → Longer l l → Longer k l → (x : Reported t l after old new n)
-    → ((told_in x.answer).number ≡ 13 → ⊥) → Whatever t k (output_of x.answer x.rows l)
+    → ((told_by x.answer).number ≡ 13 → ⊥) → Whatever t k (output_of x.answer x.rows l)
 report_longer t k l after old new n own other x roomy = served t k l (longer_serves k l own other) x.rows x.answer x.read roomy
 
 -- Rows that are as long as the first two lines say are long enough.
 pub report_fits : (t : List ℕ) (l after : Lent) (old new : List ℕ) (n intervals devices : ℕ) → Headed t intervals devices
-    → intervals * devices ≤ room_of (reader_rows l) → (x : Reported t l after old new n) → (told_in x.answer).number ≡ 13 → ⊥
+    → intervals * devices ≤ room_of (reader_rows l) → (x : Reported t l after old new n) → (told_by x.answer).number ≡ 13 → ⊥
 report_fits t l after old new n intervals devices headed room x e = fits x.answer x.read e
   where
     refused : {r : Refusal} → Refused t (reader_rows l) x.rows r → (told_of r).number ≡ 13 → ⊥
@@ -111,9 +112,9 @@ report_fits t l after old new n intervals devices headed room x e = fits x.answe
     refused (Refused.devices y) q = omega (arith, q)
     refused (Refused.line y) q = omega (arith, q)
 
-    fits : (a : ReadAnswer) → ReadRight t (reader_rows l) x.rows a → (told_in a).number ≡ 13 → ⊥
-    fits (ReadAnswer.Refused r) y q = refused y q
-    fits (ReadAnswer.Record h) y q = omega (arith, q)
+    fits : (a : Result Header Refusal) → ReadRight t (reader_rows l) x.rows a → (told_by a).number ≡ 13 → ⊥
+    fits (Err r) y q = refused y q
+    fits (Ok h) y q = omega (arith, q)
 
 -- The program's rows have 2,976 entries, and its buffer 217,600 bytes.
 enough : 61 * 2976 + 35972 < 217600

@@ -1,6 +1,7 @@
 -- The call that a record makes, and what comes of it.
 -- Assumes nothing.
-use Rattle.std.specs.Prelude.{ℕ, ◌*◌, ◌≤◌, ◌≡◌, List, ◌++◌, length, take, drop, replicate}
+use Rattle.std.specs.Prelude.{ℕ, ◌*◌, ◌≤◌, ◌≡◌, List, ◌++◌, length, take, drop, replicate, Result}
+use Rattle.refusals.specs.declared.Refusal.{Refusal}
 use Rattle.protocol.specs.Ranges.{intervals_most, devices_most}
 use Rattle.columns.specs.Series.{FuelRoom, ChecksRoom, Room, series_take, checks_take, fuel_take}
 use Rattle.drainage_judge.specs.Call.{Call}
@@ -8,15 +9,10 @@ use Rattle.drainage_judge.specs.Order.{judged}
 use Rattle.accounts.specs.Account.{account_size}
 use Rattle.drainage_devices.specs.Devices.{Results}
 use Rattle.drainage.specs.Promise.{answer_by, results_by}
-use Rattle.accounts.specs.declared.Answer.{Answer}
+use Rattle.figures.specs.declared.Figures.{Figures}
+use Rattle.drainage_outcomes.specs.Rows.{Rows as ResultRows}
 use Rattle.drainage_record_form.specs.Rows.{Rows, lesser}
 use Rattle.drainage_record.specs.declared.Header.{Header}
-
--- the three result rows that the caller lends (rule 3.11)
-pub record ResultRows : Type 0 where
-  pub outcome : List ℕ
-  pub flow : List ℕ
-  pub content : List ℕ
 
 -- A result row's part that is lent to quantification: as long as N and D ask, or the whole row where it is shorter.
 abbrev pub part_of : ℕ → List ℕ → ℕ
@@ -60,7 +56,7 @@ call_of h r results =
     }
 
 -- The answer to that call, what it leaves in what it was lent, and the whole rows.
-unfoldable pub answer_to : Header → Rows → ResultRows → Answer
+unfoldable pub answer_to : Header → Rows → ResultRows → Result Figures Refusal
 answer_to h r results = answer_by (judged (call_of h r results)) (call_of h r results)
 
 unfoldable pub parts_after : Header → Rows → ResultRows → Results
@@ -78,6 +74,6 @@ pub record Roomy (h : Header) (r : Rows) : Type 0 where
   pub checks : ChecksRoom r.checks h.devices
   pub series : Room r.series (h.devices * h.intervals)
 
-pub record Quantified (h : Header) (r : Rows) (before after : ResultRows) (a : Answer) : Type 0 where
+pub record Quantified (h : Header) (r : Rows) (before after : ResultRows) (a : Result Figures Refusal) : Type 0 where
   pub answer : a ≡ answer_to h r before
   pub results : after ≡ results_after h r before

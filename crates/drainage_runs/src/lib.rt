@@ -13,7 +13,8 @@ pub const TOO_LONG: u16 = 8;
 
 pub const NOT_WHOLE: u16 = 9;
 
-// What a gap's entries hold above every reading, and then the outcome, where there is no replacement.
+// What a gap's entries hold above every reading, and then the outcome, where there is no replacement: the row that is lent has room
+// for numbers alone.
 pub const EXCLUDING: u16 = 65500;
 
 // How many entries are looked at in one go.
@@ -24,14 +25,12 @@ pub fn gap_end(reading: &[u16], from: usize) -> usize
     requires { from ≤ length reading.now }
     ensures { (result ≡ gap_end reading.now from) × (from ≤ result) × (result ≤ length reading.now) }
 {
-    let mut i = from;
-    while i < reading.len() {
+    for i in from..reading.len() {
         if reading[i] != MISSING {
             return i;
         }
-        i += 1;
     }
-    i
+    reading.len()
 }
 
 // Whether none of the entries of the block from i is missing. All are looked at, so that a processor does it in one go.
@@ -41,14 +40,8 @@ pub fn measured(reading: &[u16], i: usize) -> bool
     ensures { result ≡ every block (λ k. measured_at reading.now (i + k)) }
 {
     let mut all = true;
-    let mut k = 0;
-    while k < BLOCK {
-        if reading[i + k] == MISSING {
-            all = false;
-            k += 1;
-        } else {
-            k += 1;
-        }
+    for k in 0..BLOCK {
+        all &= reading[i + k] != MISSING;
     }
     all
 }
@@ -66,19 +59,13 @@ pub fn windows_whole(reading: &[u16], a: usize, e: usize, w: usize) -> bool
         return false;
     }
     let mut all = true;
-    let mut from = a - w;
-    let mut side: usize = 0;
-    'look: while side < 2 {
-        let mut k = 0;
-        while k < w {
+    'look: for from in [a - w, e] {
+        for k in 0..w {
             if reading[from + k] == MISSING {
                 all = false;
                 break 'look;
             }
-            k += 1;
         }
-        from = e;
-        side += 1;
     }
     all
 }

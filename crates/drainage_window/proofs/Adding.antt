@@ -3,11 +3,11 @@
 use Prim.Native.Nat.{ℕ, ◌+◌, ◌*◌, ◌≤◌, ◌<◌}
 use mathlib.Core.Path.{◌≡◌, sym, ap, ap₂, ◌∙◌, subst}
 use mathlib.Core.List.{List, [], ◌++◌, map}
-use native.Mathlib.Nat.{mul-le-mul_right, le_antisymm}
+use native.Mathlib.Nat.{mul-le-mul_right}
 use native.Mathlib.Numerals.{add-one}
 use native.Mathlib.Omega.{arith}
-use lib.ListN.{length, get_or, drop}
-use lib.Seq.{drop-cons, drop-length}
+use lib.ListN.{length, get_or, drop, drop_of_length-le}
+use lib.Seq.{drop-cons}
 use Rattle.rows.specs.Rows.{total}
 use Rattle.drainage_window.specs.declared.Tally.{Tally}
 use Rattle.drainage_window.specs.Window.{tally_of}
@@ -24,16 +24,6 @@ pub record Adding (xs : List ℕ) (sum squares i : ℕ) : Type 0 where
   pub left : sum + total (drop i xs) ≡ total xs
   pub left_squares : squares + total (squared (drop i xs)) ≡ total (squared xs)
 
-pub adding_none : {xs : List ℕ} → length xs ≤ 288 → Low 30000 xs → Adding xs 0 0 0
-adding_none {xs} h l =
-    record {
-      few = h;
-      low = l;
-      within = omega arith;
-      left = (let z : 0 + total xs ≡ total xs = omega arith in z);
-      left_squares = (let z : 0 + total (squared xs) ≡ total (squared xs) = omega arith in z);
-    }
-
 -- the value at i is what comes off what is left
 module _ (xs : List ℕ) (i : ℕ) (h : i < length xs) where
   pub off : total (drop i xs) ≡ get_or xs i 0 + total (drop (i + 1) xs)
@@ -43,20 +33,7 @@ module _ (xs : List ℕ) (i : ℕ) (h : i < length xs) where
   off_squares = rw (add-one, drop-cons xs i 0)
 
 module _ {xs : List ℕ} {sum squares i : ℕ} (a : Adding xs sum squares i) (h : i < length xs) where
-  pub adding_more : Adding xs (sum + get_or xs i 0) (squares + get_or xs i 0 * get_or xs i 0) (i + 1)
-  adding_more =
-      record {
-        few = a.few;
-        low = a.low;
-        within = omega arith;
-        left = omega (arith, off xs i h, a.left);
-        left_squares = omega (arith, off_squares xs i h, a.left_squares);
-      }
-
   -- no sum on the way leaves its bound: 288 values of at most 30,000
-  pub value_fits : get_or xs i 0 ≤ 30000
-  value_fits = a.low.low i h
-
   pub sum_fits : sum + get_or xs i 0 ≤ 8640000
   sum_fits =
       let z : length xs * 30000 ≤ 288 * 30000 = mul-le-mul_right 30000 a.few in
@@ -69,15 +46,12 @@ module _ {xs : List ℕ} {sum squares i : ℕ} (a : Adding xs sum squares i) (h 
       omega (arith, off_squares xs i h, a.left_squares)
 
 pub adding_all : {xs : List ℕ} {sum squares i : ℕ} → Adding xs sum squares i → length xs ≤ i
-    → record { n = i; sum = sum; squares = squares } ≡ tally_of xs
+    → record { n = length xs; sum = sum; squares = squares } ≡ tally_of xs
 unfolding tally_of
-adding_all {xs} {sum} {squares} {i} a h = λ j. record { n = end j; sum = all j; squares = all_squares j }
+adding_all {xs} {sum} {squares} {i} a h = λ j. record { n = length xs; sum = all j; squares = all_squares j }
   where
-    end : i ≡ length xs
-    end = le_antisymm a.within h
-
     nothing : drop i xs ≡ []
-    nothing = ap (λ (k : ℕ). drop k xs) end ∙ drop-length xs
+    nothing = drop_of_length-le xs h
 
     all : sum ≡ total xs
     all = let z : total (drop i xs) ≡ 0 = ap total nothing in omega (arith, a.left)

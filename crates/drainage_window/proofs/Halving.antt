@@ -40,13 +40,6 @@ module _ {t : Tally} {z low high : ℕ} (b : Between t z low high) (h : low + 1 
   pub middle_most : low + (high - low) / 2 ≤ 30000
   middle_most = let w = halved low high h in omega (arith, w.1, b.most)
 
-  -- either half is shorter than the whole
-  pub shorter_up : high - (low + (high - low) / 2) < high - low
-  shorter_up = let w = halved low high h in omega (arith, w.0, w.1)
-
-  pub shorter_down : low + (high - low) / 2 - low < high - low
-  shorter_down = let w = halved low high h in omega (arith, w.0, w.1)
-
   pub between_up : meets t z (low + (high - low) / 2) ≡ true → Between t z (low + (high - low) / 2) high
   between_up e =
       record {

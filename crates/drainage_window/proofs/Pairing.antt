@@ -20,42 +20,7 @@ pub record Pairing (xs ys : List ℕ) (sum i : ℕ) : Type 0 where
   pub within : i ≤ 16
   pub left : sum + (total (drop i xs) + total (drop i ys)) ≡ total xs + total ys
 
-pub pairing_none : {xs ys : List ℕ} → length xs ≡ 16 → length ys ≡ 16 → Low 30000 xs → Low 30000 ys → Pairing xs ys 0 0
-pairing_none {xs} {ys} h k l m =
-    record {
-      length_xs = h;
-      length_ys = k;
-      low_xs = l;
-      low_ys = m;
-      within = omega arith;
-      left = (let z : 0 + (total xs + total ys) ≡ total xs + total ys = omega arith in z);
-    }
-
 module _ {xs ys : List ℕ} {sum i : ℕ} (p : Pairing xs ys sum i) where
-  module _ (h : i < 16) where
-    in_xs : i < length xs
-    in_xs = omega (arith, p.length_xs)
-
-    in_ys : i < length ys
-    in_ys = omega (arith, p.length_ys)
-
-    pub pairing_more : Pairing xs ys (sum + (get_or xs i 0 + get_or ys i 0)) (i + 1)
-    pairing_more =
-        record {
-          length_xs = p.length_xs;
-          length_ys = p.length_ys;
-          low_xs = p.low_xs;
-          low_ys = p.low_ys;
-          within = omega arith;
-          left = omega (arith, off xs i in_xs, off ys i in_ys, p.left);
-        }
-
-    pub first_fits : get_or xs i 0 ≤ 30000
-    first_fits = p.low_xs.low i in_xs
-
-    pub second_fits : get_or ys i 0 ≤ 30000
-    second_fits = p.low_ys.low i in_ys
-
   -- no sum on the way leaves its bound: 32 values of at most 30,000
   all_most : total xs + total ys ≤ 960000
   all_most =
@@ -63,8 +28,11 @@ module _ {xs ys : List ℕ} {sum i : ℕ} (p : Pairing xs ys sum i) where
       let y : total ys ≤ 16 * 30000 = subst (λ (n : ℕ). total ys ≤ n * 30000) p.length_ys (total_most 30000 ys p.low_ys) in
       omega arith
 
-  pub pair_fits : (h : i < 16) → sum + (get_or xs i 0 + get_or ys i 0) ≤ 960000
-  pair_fits h = omega (arith, off xs i (in_xs h), off ys i (in_ys h), p.left, all_most)
+  pub pair_fits : i < 16 → sum + (get_or xs i 0 + get_or ys i 0) ≤ 960000
+  pair_fits h =
+      let x : i < length xs = omega (arith, p.length_xs) in
+      let y : i < length ys = omega (arith, p.length_ys) in
+      omega (arith, off xs i x, off ys i y, p.left, all_most)
 
   pub mean_all : 16 ≤ i → sum / 32 ≡ mean_of (tally_of (xs ++ ys))
   unfolding mean_of tally_of

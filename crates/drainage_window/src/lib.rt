@@ -28,48 +28,82 @@ pub struct Tally {
     pub squares: u64,
 }
 
-// Count, sum and sum of squares of one window.
-fn window_tally(part: &[u16]) -> Tally
-    requires { (length part.now ≤ width95) × Low flow_most part.now }
-    ensures { result ≡ tally_of part.now }
-{
-    let mut sum: u64 = 0;
-    let mut squares: u64 = 0;
-    let mut i = 0;
-    while i < part.len() {
-        let v = part[i] as u64;
-        sum += v;
-        squares += v * v;
-        i += 1;
+impl Tally {
+    // Count, sum and sum of squares of one window.
+    fn of_one(part: &[u16]) -> Tally
+        requires { (length part.now ≤ width95) × Low flow_most part.now }
+        ensures { result ≡ tally_of part.now }
+    {
+        let mut sum: u64 = 0;
+        let mut squares: u64 = 0;
+        for value in part {
+            let v = *value as u64;
+            sum += v;
+            squares += v * v;
+        }
+        Tally {
+            n: part.len() as u64,
+            sum,
+            squares,
+        }
     }
-    Tally {
-        n: i as u64,
-        sum: sum,
-        squares: squares,
-    }
-}
 
-// Count, sum and sum of squares of the window before and the window after. Ruled out: one window taken twice; the sums in
-// place of the sums of squares.
-pub fn tally_of(before: &[u16], after: &[u16]) -> Tally
-    requires { Windows before.now after.now }
-    ensures { (result ≡ tally_of (before.now ++ after.now)) × Sized result }
-{
-    let a = window_tally(before);
-    let b = window_tally(after);
-    Tally {
-        n: a.n + b.n,
-        sum: a.sum + b.sum,
-        squares: a.squares + b.squares,
+    // Count, sum and sum of squares of the window before and the window after. Ruled out: one window taken twice; the sums in
+    // place of the sums of squares.
+    pub fn of(before: &[u16], after: &[u16]) -> Tally
+        requires { Windows before.now after.now }
+        ensures { (result ≡ tally_of (before.now ++ after.now)) × Sized result }
+    {
+        let a = Tally::of_one(before);
+        let b = Tally::of_one(after);
+        Tally {
+            n: a.n + b.n,
+            sum: a.sum + b.sum,
+            squares: a.squares + b.squares,
+        }
     }
-}
 
-// The mean, rounded down. Ruled out: rounded to the nearest; the mean of the sums of squares.
-pub fn mean(t: Tally) -> u64
-    requires { Sized t }
-    ensures { result ≡ mean_of t }
-{
-    t.sum / t.n
+    // The mean, rounded down. Ruled out: rounded to the nearest; the mean of the sums of squares.
+    pub fn mean(self) -> u64
+        requires { Sized self }
+        ensures { result ≡ mean_of self }
+    {
+        self.sum / self.n
+    }
+
+    // Whether l meets the limit's condition.
+    fn meets_at(self, z: u64, l: u64) -> bool
+        requires { Sized self × (z ≤ z95) × (l ≤ flow_most) }
+        ensures { result ≡ meets self z l }
+    {
+        let n = self.n;
+        let sum = self.sum;
+        if sum < n * l {
+            return false;
+        }
+        let left = sum - n * l;
+        z * (n * self.squares) <= z * (sum * sum) + 100 * ((n - 1) * (left * left))
+    }
+
+    // The lower limit for z2 in hundredths, by halving. Ruled out: the least number that does not meet the condition (rounded
+    // up); the inequality reversed at equality; n in the place of n - 1, as for a whole population.
+    pub fn limit(self, z: u64) -> u64
+        requires { Sized self × (z ≤ z95) }
+        ensures { result ≡ limit_of self z }
+    {
+        // low meets the condition or is 0, high does not meet it
+        let mut low = 0;
+        let mut high = self.mean() + 1;
+        while low + 1 < high {
+            let middle = low + (high - low) / 2;
+            if self.meets_at(z, middle) {
+                low = middle;
+            } else {
+                high = middle;
+            }
+        }
+        low
+    }
 }
 
 // The mean of two windows of 16, rounded down: no squares, and a division by 32. Ruled out: one window taken twice; the mean of 16.
@@ -78,44 +112,8 @@ pub fn mean_of_32(before: &[u16], after: &[u16]) -> u64
     ensures { (result ≡ mean_of (tally_of (before.now ++ after.now))) × (result ≤ flow_most) }
 {
     let mut sum: u32 = 0;
-    let mut i = 0;
-    while i < MEAN_WIDTH {
+    for i in 0..MEAN_WIDTH {
         sum += before[i] as u32 + after[i] as u32;
-        i += 1;
     }
     (sum / MEAN_VALUES) as u64
-}
-
-// Whether l meets the limit's condition.
-fn meets_at(t: Tally, z: u64, l: u64) -> bool
-    requires { Sized t × (z ≤ z95) × (l ≤ flow_most) }
-    ensures { result ≡ meets t z l }
-{
-    let n = t.n;
-    let sum = t.sum;
-    if sum < n * l {
-        return false;
-    }
-    let left = sum - n * l;
-    z * (n * t.squares) <= z * (sum * sum) + 100 * ((n - 1) * (left * left))
-}
-
-// The lower limit for z2 in hundredths, by halving. Ruled out: the least number that does not meet the condition (rounded
-// up); the inequality reversed at equality; n in the place of n - 1, as for a whole population.
-pub fn limit(t: Tally, z: u64) -> u64
-    requires { Sized t × (z ≤ z95) }
-    ensures { result ≡ limit_of t z }
-{
-    // low meets the condition or is 0, high does not meet it
-    let mut low = 0;
-    let mut high = mean(t) + 1;
-    while low + 1 < high {
-        let middle = low + (high - low) / 2;
-        if meets_at(t, z, middle) {
-            low = middle;
-        } else {
-            high = middle;
-        }
-    }
-    low
 }

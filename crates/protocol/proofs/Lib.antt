@@ -1,4 +1,3 @@
-pub mod SignedLaws
 pub mod KindLaws
 pub mod Integers
 pub mod RoundingLaws

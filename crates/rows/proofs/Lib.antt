@@ -5,3 +5,4 @@ pub mod Scan
 pub mod Fill
 pub mod Joined
 pub mod More
+pub mod Over

@@ -10,10 +10,12 @@ pub fn first_difference(have: &[usize], want: &[usize]) -> usize
     ensures { FirstOf (length have.now)
         (λ k. not (eqb (get_or have.now k 0) (get_or want.now k 0))) result }
 {
-    for i in 0..have.len() {
+    let mut i = 0;
+    while i < have.len() {
         if have[i] != want[i] {
             return i;
         }
+        i += 1;
     }
-    have.len()
+    i
 }

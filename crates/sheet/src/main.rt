@@ -13,10 +13,11 @@ const ENTRIES: usize = 2976;
 
 // The first n bytes of a text, or all of it.
 fn first(t: &[u8], n: usize) -> &[u8] {
-    if n <= t.len() { &t[..n] } else { t }
+    &t[..n.min(t.len())]
 }
 
-// Fills a text from what is read, until it is full or nothing more comes: how many bytes it got.
+// Fills a text from what is read, until it is full or nothing more comes: how many bytes it got. An interrupted read brings the end no
+// nearer, so that only a count of the reads can bound the loop.
 fn read_full<R: Read>(input: &mut R, text: &mut [u8]) -> io::Result<usize>
     ensures { IfOk result (λ n. n ≤ length text.new) }
 {

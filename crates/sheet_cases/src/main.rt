@@ -4,8 +4,7 @@
 ghost use Rattle.std.specs.Prelude.{◌≤◌, length};
 
 use figures::Figures;
-use refusals::Told;
-use sheet_text::{ReadAnswer, WriteAnswer};
+use refusals::{Refusal, Told};
 use std::io;
 use std::io::Print;
 
@@ -25,29 +24,28 @@ fn print_line<P: Print>(output: &P, key: &[u8], v: u64) -> io::Result<()>
     print(output, &buf, n)
 }
 
-fn print_refusal<P: Print>(output: &P, a: Told) -> io::Result<()> {
-    print_line(output, b"refusal=", a.number)?;
-    print_line(output, b"device=", a.device as u64)?;
-    print_line(output, b"place=", a.place as u64)
+fn print_refusal<P: Print>(output: &P, refusal: Refusal) -> io::Result<()> {
+    let told = Told::from(refusal);
+    print_line(output, b"refusal=", told.number)?;
+    print_line(output, b"device=", told.device as u64)?;
+    print_line(output, b"place=", told.place as u64)
 }
 
 fn print_sheet<P: Print>(output: &P, f: Figures) -> io::Result<()> {
     let mut buf = [0u8; sheet_text::SHEET_MOST];
-    let a = sheet_text::write(f, &mut buf);
-    let WriteAnswer::Written(n) = a else {
-        return print_refusal(output, a.told());
-    };
-    print(output, &buf, n)
+    match sheet_text::write(f, &mut buf) {
+        Ok(n) => print(output, &buf, n),
+        Err(refusal) => print_refusal(output, refusal),
+    }
 }
 
 // Reads a text and prints the sheet that it is, or where it is none.
 fn shown<P: Print>(output: &P, name: &[u8], t: &[u8]) -> io::Result<()> {
     output.write_all(name)?;
-    let a = sheet_text::read(t);
-    let ReadAnswer::Sheet(f) = a else {
-        return print_refusal(output, a.told());
-    };
-    print_sheet(output, f)
+    match sheet_text::read(t) {
+        Ok(f) => print_sheet(output, f),
+        Err(refusal) => print_refusal(output, refusal),
+    }
 }
 
 fn numbers<P: Print>(output: &P) -> io::Result<()> {
@@ -198,13 +196,18 @@ fn worked() -> Figures {
     }
 }
 
-fn print_written<P: Print>(output: &P, name: &[u8], a: WriteAnswer, buf: &[u8]) -> io::Result<()> {
+fn print_written<P: Print>(
+    output: &P,
+    name: &[u8],
+    a: Result<usize, Refusal>,
+    buf: &[u8],
+) -> io::Result<()> {
     output.write_all(name)?;
-    let WriteAnswer::Written(_) = a else {
-        print_refusal(output, a.told())?;
+    if let Err(refusal) = a {
+        print_refusal(output, refusal)?;
         output.write_all(buf)?;
         return output.write_all(b"\n");
-    };
+    }
     output.write_all(buf)
 }
 

@@ -3,7 +3,6 @@ use Prim.Native.Nat.{ℕ, zero, suc, ◌+◌, ◌^◌, ◌≤◌, ◌<◌}
 use mathlib.Core.Path.{◌≡◌, refl, sym, ap, ◌∙◌, subst}
 use mathlib.Core.List.{List, [], ◌∷◌, ◌++◌}
 use native.Mathlib.Omega.{arith}
-use denote.Enum.Declared.{tag_of}
 use lib.ListN.{length, get_or, take, drop, length-append}
 use lib.Seq.{sets, length-sets, take-suc, take_all, split_at}
 use lib.IntN.{ℤ, pos, negsuc}
@@ -11,25 +10,21 @@ use lib.Signed.{mag}
 use mir.Syntax.{w64}
 use mir.Val.{SFits, to_z, of_z}
 use mir.ValLaws.{to_z-of_z}
-use Rattle.text.specs.declared.Natural.{Natural}
-use Rattle.text.specs.declared.Signed.{Signed}
+use Rattle.std.specs.Prelude.{Result, Ok, Err}
+use Rattle.std.specs.Result.{IsErrAnd}
+use Rattle.text.specs.declared.Wrong.{Wrong}
 use Rattle.text.specs.Form.{Of, ReadAs, Broken, RefusedAt}
 use Rattle.text.specs.Decimal.{Range, Fit, plain}
 use Rattle.text.specs.Line.{Entry, line_of, line, lines_of, AllFit, lines}
-use Rattle.text.specs.Answer.{Put, NaturalIn, SignedIn, wrong_at, signed_wrong_at, AskedSigned}
-use Rattle.text.specs.contracts.Natural as NaturalType
-use Rattle.text.specs.contracts.Signed as SignedType
+use Rattle.text.specs.Answer.{Put}
 use Rattle.text.proofs.Forms.{refused_alike}
-use Rattle.text.proofs.Lines.{natural_read, signed_read, natural_wrong, signed_wrong}
 use Rattle.text.proofs.Writing.{put_leads}
 use Rattle.text.proofs.Tables.{lines_read, lines_broken, lines_past, lines_all, lines_put, lines_longest, lines_snoc, Wide, longest}
 use Rattle.figures.specs.declared.Figures.{Figures}
 use Rattle.sheet_text.specs.Sheet.{schema, values_of, text_of, sheet_most, InRange, IsSheet, unsigned64, signed64}
 use Rattle.sheet_text.specs.Read.{SheetOf}
-use Rattle.sheet_text.specs.Head.{HeadIn, volumes_of, head_wrong}
+use Rattle.sheet_text.specs.Head.{ReadOr}
 use Rattle.sheet_text.specs.Write.{Done, Short}
-use Rattle.sheet_text.specs.declared.Volumes.{Volumes}
-use Rattle.sheet_text.specs.declared.Head.{Head}
 
 abbrev blank : Entry
 blank = record { key = []; range = plain 0 0 }
@@ -208,49 +203,23 @@ sheet_refused = refused_alike (Of (lines schema)) IsSheet there back
 
 -- ---- reading
 
-module _ (t : List ℕ) (i : ℕ) (h : i < 15) (zs : List ℤ) (p : ℕ) (a : ReadAs (lines (take i schema)) t 0 p zs) where
-  short : i < length schema
-  short = omega (arith, schema_length)
-
-  read_step : (z : ℤ) (q : ℕ) → ReadAs (line (entry_at i).key (entry_at i).range) t p q z → ReadAs (lines (take (suc i) schema)) t 0 q (zs ++ (z ∷ []))
-  read_step z q b =
-      subst (λ (es : List Entry). ReadAs (lines es) t 0 q (zs ++ (z ∷ []))) (sym (take-suc schema i blank short))
+module _ {t : List ℕ} {zs : List ℤ} {p : ℕ} (i : ℕ) (h : i < 15) (a : ReadAs (lines (take i schema)) t 0 p zs) where
+  pub line_step : {z : ℤ} {q : ℕ} → ReadAs (line (entry_at i).key (entry_at i).range) t p q z → ReadAs (lines (take (suc i) schema)) t 0 q (zs ++ (z ∷ []))
+  line_step {z} {q} b =
+      subst (λ (es : List Entry). ReadAs (lines es) t 0 q (zs ++ (z ∷ []))) (sym (take-suc schema i blank (omega (arith, schema_length))))
       (lines_read (take i schema) (entry_at i) zs z t 0 p q a b)
 
-  read_refused : (k : ℕ) → Broken (Of (line (entry_at i).key (entry_at i).range)) t p k → RefusedAt IsSheet t k
-  read_refused k b =
+  pub line_refused : {k : ℕ} → Broken (Of (line (entry_at i).key (entry_at i).range)) t p k → RefusedAt IsSheet t k
+  line_refused {k} b =
       sheet_refused t k
-      (subst (λ (es : List Entry). RefusedAt (Of (lines es)) t k) (sym (split_at schema i blank short))
+      (subst (λ (es : List Entry). RefusedAt (Of (lines es)) t k) (sym (split_at schema i blank (omega (arith, schema_length))))
       (lines_broken (take i schema) t p zs a (entry_at i) (drop (suc i) schema) k b (drop (suc i) zeros) (fit_drop (suc i) schema zeros zeros_fit)))
 
--- The same with what the reader of a line answered and promises.
-module _ {t : List ℕ} {zs : List ℤ} {p : ℕ} (i : ℕ) (h : i < 15) (a : ReadAs (lines (take i schema)) t 0 p zs) where
-  pub natural_step : {r : Natural} {v q : ℕ} → r ≡ Natural.Value v q → NaturalIn (line (entry_at i).key (entry_at i).range) t p r → ReadAs
-      (lines (take (suc i) schema)) t 0 q (zs ++ (pos v ∷ []))
-  natural_step {r} {v} {q} e b = read_step t i h zs p a (pos v) q (natural_read (line (entry_at i).key (entry_at i).range) t p r v q e b)
-
-  pub signed_step : {r : Signed} {z : ℤ} {q : ℕ} → r ≡ Signed.Value z q → SignedIn (line (entry_at i).key (entry_at i).range) t p r → ReadAs
-      (lines (take (suc i) schema)) t 0 q (zs ++ (z ∷ []))
-  signed_step {r} {z} {q} e b = read_step t i h zs p a z q (signed_read (line (entry_at i).key (entry_at i).range) t p r z q e b)
-
-  pub read_fit : {r : Signed} {z : ℤ} {q : ℕ} → r ≡ Signed.Value z q → SignedIn (line (entry_at i).key (entry_at i).range) t p r → Fit (entry_at i).range z
-  read_fit {r} {z} {q} e b = (signed_read (line (entry_at i).key (entry_at i).range) t p r z q e b).taken
-
-  pub natural_refused : {r : Natural} {j k : ℕ} → r ≡ Natural.Wrong j → k ≡ wrong_at r → NaturalIn (line (entry_at i).key (entry_at i).range) t p r →
-      RefusedAt IsSheet t k
-  natural_refused {r} {j} {k} w e b =
-      read_refused t i h zs p a k (natural_wrong (line (entry_at i).key (entry_at i).range) t p k r (ap (tag_of NaturalType.the_type) w) e b)
-
-  pub signed_refused : {r : Signed} {j k : ℕ} → r ≡ Signed.Wrong j → k ≡ signed_wrong_at r → SignedIn (line (entry_at i).key (entry_at i).range) t p r →
-      RefusedAt IsSheet t k
-  signed_refused {r} {j} {k} w e b =
-      read_refused t i h zs p a k (signed_wrong (line (entry_at i).key (entry_at i).range) t p k r (ap (tag_of SignedType.the_type) w) e b)
-
-pub head_read : {t : List ℕ} {r : Head} {v : Volumes} {q : ℕ} → r ≡ Head.Read v q → HeadIn t r → ReadAs (lines (take 8 schema)) t 0 q (volumes_of v)
-head_read {t} e b = subst (HeadIn t) e b
-
-pub head_refused : {t : List ℕ} {r : Head} {j k : ℕ} → r ≡ Head.Wrong j → k ≡ head_wrong r → HeadIn t r → RefusedAt IsSheet t k
-head_refused {t} w e b = subst (λ (x : ℕ). RefusedAt IsSheet t x) (sym (e ∙ ap head_wrong w)) (subst (HeadIn t) w b)
+-- A wrong place that `?` gives on.
+pub given_on : {A : Type 0} (right : A → Type 0) {t : List ℕ} {w : Wrong} (r : Result A Wrong) → IsErrAnd r (λ (v : Wrong). v ≡ w)
+    → RefusedAt IsSheet t w.place → ReadOr right t r
+given_on right (Ok x) e b = absurd e
+given_on right {t} (Err v) e b = subst (λ (x : Wrong). RefusedAt IsSheet t x.place) (sym e) b
 
 module _ {t : List ℕ} {zs : List ℤ} {p : ℕ} (a : ReadAs (lines (take 15 schema)) t 0 p zs) where
   all_lines : take 15 schema ≡ schema
@@ -353,8 +322,3 @@ put_short f old mid n same size short most = record {
   most = omega (arith, size, most);
   is = same;
 }
-
--- ---- what the reader of a signed line is asked
-
-pub asked_signed : {t : List ℕ} {p : ℕ} → p ≤ length t → AskedSigned t p 9223372036854775808 9223372036854775807 10
-asked_signed h = record { within = h; some = omega arith; negative = omega arith; positive = omega arith; stop = omega arith }

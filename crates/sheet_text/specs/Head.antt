@@ -1,9 +1,11 @@
--- The reader's first part. Only private contracts need this: the promise of the whole reader is ReadRight (Read.antt) alone.
-use Rattle.std.specs.Prelude.{ℕ, List, [], ◌∷◌, ℤ, pos, take}
+-- The reader's parts. Only private contracts need these: the promise of the whole reader is ReadRight (Read.antt) alone.
+use Rattle.std.specs.Prelude.{ℕ, List, [], ◌∷◌, ℤ, pos, take, Result, Ok, Err}
+use Rattle.text.specs.declared.Wrong.{Wrong}
 use Rattle.text.specs.Form.{ReadAs, RefusedAt}
 use Rattle.text.specs.Line.{lines}
+use Rattle.figures.specs.declared.Figures.{Figures}
 use Rattle.sheet_text.specs.declared.Volumes.{Volumes}
-use Rattle.sheet_text.specs.declared.Head.{Head}
+use Rattle.sheet_text.specs.Read.{SheetOf}
 use Rattle.sheet_text.specs.Sheet.{IsSheet, schema}
 
 -- The values of a sheet's first eight lines.
@@ -19,12 +21,14 @@ volumes_of v =
     pos v.uncombusted_l ∷
     []
 
--- Those lines stand at the text's start, or the text is no sheet.
-abbrev pub HeadIn : List ℕ → Head → Type 0
-HeadIn t (Head.Read v stop) = ReadAs (lines (take 8 schema)) t 0 stop (volumes_of v)
-HeadIn t (Head.Wrong k) = RefusedAt IsSheet t k
+-- What was read is right, or the text is no sheet.
+abbrev pub ReadOr : {A : Type 0} → (A → Type 0) → List ℕ → Result A Wrong → Type 0
+ReadOr right t (Ok x) = right x
+ReadOr right t (Err w) = RefusedAt IsSheet t w.place
 
--- The place of an answer that is wrong.
-abbrev pub head_wrong : Head → ℕ
-head_wrong (Head.Read v stop) = 0
-head_wrong (Head.Wrong k) = k
+-- Those lines stand at the text's start, up to the place that is given.
+abbrev pub HeadIn : List ℕ → Result (Volumes × ℕ) Wrong → Type 0
+HeadIn t = ReadOr (λ x. ReadAs (lines (take 8 schema)) t 0 x.1 (volumes_of x.0)) t
+
+abbrev pub FiguresIn : List ℕ → Result Figures Wrong → Type 0
+FiguresIn t = ReadOr (SheetOf t) t

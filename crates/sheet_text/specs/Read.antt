@@ -1,17 +1,10 @@
 -- What reading a sheet answers, and what the answer means.
-use Rattle.std.specs.Prelude.{ℕ, ◌≡◌, List}
+use Rattle.std.specs.Prelude.{ℕ, ◌≡◌, List, Result, Ok, Err}
 use Rattle.text.specs.Form.{RefusedAt}
 use Rattle.refusals.specs.declared.Refusal.{Refusal}
-use Rattle.refusals.specs.declared.Told.{Told}
-use Rattle.refusals.specs.Table.{told_of, nothing}
+use Rattle.refusals.specs.Table.{told_of, told_by, nothing}
 use Rattle.figures.specs.declared.Figures.{Figures}
-use Rattle.sheet_text.specs.declared.ReadAnswer.{ReadAnswer}
 use Rattle.sheet_text.specs.Sheet.{text_of, InRange, IsSheet}
-
--- What an answer tells: nothing of a sheet (rule 5.7), else the refusal as the table has it.
-abbrev pub told_in : ReadAnswer → Told
-told_in (ReadAnswer.Sheet f) = nothing
-told_in (ReadAnswer.Refused r) = told_of r
 
 -- The text is the sheet of these figures (rule 11.6).
 pub record SheetOf (t : List ℕ) (f : Figures) : Type 0 where
@@ -22,13 +15,13 @@ pub record SheetOf (t : List ℕ) (f : Figures) : Type 0 where
 pub data Refused (t : List ℕ) : Refusal → Type 0 where
   no_sheet : {k : ℕ} → RefusedAt IsSheet t k → Refused t (Refusal.NoSheet k)
 
-abbrev pub ReadRight : List ℕ → ReadAnswer → Type 0
-ReadRight t (ReadAnswer.Sheet f) = SheetOf t f
-ReadRight t (ReadAnswer.Refused r) = Refused t r
+abbrev pub ReadRight : List ℕ → Result Figures Refusal → Type 0
+ReadRight t (Ok f) = SheetOf t f
+ReadRight t (Err r) = Refused t r
 
 -- The answer is right, and told as it must be: three zeros if the text is a sheet (rule 5.7), else the number, the device and the place
 -- of the refusal that fits it (rule 5.4).
-pub record Answered (t : List ℕ) (a : ReadAnswer) : Type 0 where
+pub record Answered (t : List ℕ) (a : Result Figures Refusal) : Type 0 where
   pub right : ReadRight t a
-  pub told_sheet : (f : Figures) → SheetOf t f → told_in a ≡ nothing
-  pub told_refused : (r : Refusal) → Refused t r → told_in a ≡ told_of r
+  pub told_sheet : (f : Figures) → SheetOf t f → told_by a ≡ nothing
+  pub told_refused : (r : Refusal) → Refused t r → told_by a ≡ told_of r

@@ -1,17 +1,10 @@
 -- What writing a sheet answers, and what the answer and the buffer mean.
-use Rattle.std.specs.Prelude.{ℕ, ◌≤◌, ◌<◌, ◌≡◌, List, length}
+use Rattle.std.specs.Prelude.{ℕ, ◌≤◌, ◌<◌, ◌≡◌, List, length, Result, Ok, Err}
 use Rattle.text.specs.Answer.{Leads}
 use Rattle.refusals.specs.declared.Refusal.{Refusal}
-use Rattle.refusals.specs.declared.Told.{Told}
-use Rattle.refusals.specs.Table.{told_of, nothing}
+use Rattle.refusals.specs.Table.{told_of, told_by, nothing}
 use Rattle.figures.specs.declared.Figures.{Figures}
-use Rattle.sheet_text.specs.declared.WriteAnswer.{WriteAnswer}
 use Rattle.sheet_text.specs.Sheet.{text_of, sheet_most}
-
--- What an answer tells: nothing where the sheet is written (rule 5.7), else the refusal as the table has it.
-abbrev pub told_in : WriteAnswer → Told
-told_in (WriteAnswer.Written n) = nothing
-told_in (WriteAnswer.Refused r) = told_of r
 
 -- The text stands at the buffer's start, n is its length, and no byte after it has changed (rule 11.9).
 abbrev pub Done : Figures → List ℕ → List ℕ → ℕ → Type 0
@@ -28,13 +21,13 @@ pub record Short (f : Figures) (old new : List ℕ) (n : ℕ) : Type 0 where
 pub data Refused (f : Figures) (old new : List ℕ) : Refusal → Type 0 where
   short_buffer : {n : ℕ} → Short f old new n → Refused f old new (Refusal.ShortBuffer n)
 
-abbrev pub WriteRight : Figures → List ℕ → List ℕ → WriteAnswer → Type 0
-WriteRight f old new (WriteAnswer.Written n) = Done f old new n
-WriteRight f old new (WriteAnswer.Refused r) = Refused f old new r
+abbrev pub WriteRight : Figures → List ℕ → List ℕ → Result ℕ Refusal → Type 0
+WriteRight f old new (Ok n) = Done f old new n
+WriteRight f old new (Err r) = Refused f old new r
 
 -- Answer and buffer are right, and the answer is told as it must be: three zeros if the sheet can be written (rule 5.7), else the
 -- number, the device and the place of the refusal (rule 5.4).
-pub record Answered (f : Figures) (old new : List ℕ) (a : WriteAnswer) : Type 0 where
+pub record Answered (f : Figures) (old new : List ℕ) (a : Result ℕ Refusal) : Type 0 where
   pub right : WriteRight f old new a
-  pub told_written : (left : List ℕ) (n : ℕ) → Done f old left n → told_in a ≡ nothing
-  pub told_refused : (left : List ℕ) (r : Refusal) → Refused f old left r → told_in a ≡ told_of r
+  pub told_written : (left : List ℕ) (n : ℕ) → Done f old left n → told_by a ≡ nothing
+  pub told_refused : (left : List ℕ) (r : Refusal) → Refused f old left r → told_by a ≡ told_of r

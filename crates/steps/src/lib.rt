@@ -2,9 +2,10 @@
 // checks and fuel lines.
 #![tactic(auto)]
 
-ghost use Rattle.std.specs.Prelude.{◌+◌, ◌*◌, ◌<◌, ◌≡◌, length};
+ghost use Rattle.std.specs.Prelude.{◌+◌, ◌*◌, ◌<◌, ◌≡◌, ltb, length};
+ghost use Rattle.rows.specs.Rows.{either};
 ghost use Rattle.protocol.specs.Kinds.{misplaced};
-ghost use Rattle.protocol.specs.Ranges.{devices_most, checks_most};
+ghost use Rattle.protocol.specs.Ranges.{checks_most, quantity_most, factor_most};
 ghost use Rattle.columns.specs.Lent.{checks_in, fuel_in};
 ghost use Rattle.steps.specs.Wrong.{wrong_check};
 ghost use Rattle.steps.specs.Step.{step_verdict};
@@ -59,10 +60,10 @@ pub fn lengths(have: &[usize], want: &[usize]) -> Result<(), Refusal>
 pub fn mine(number: u32) -> Result<(), Refusal>
     ensures { result ≡ step_verdict (mine_step number) }
 {
-    match Mine::try_from(number) {
-        Ok(_) => Ok(()),
-        Err(_) => Err(Refusal::Mine),
+    if Mine::try_from(number).is_err() {
+        return Err(Refusal::Mine);
     }
+    Ok(())
 }
 
 // Each device's kind. Ruled out: a device after the first wrong one named; 257 taken for 1.
@@ -101,7 +102,8 @@ fn wrong_check(intervals: u32, checks: &Checks<'_>, g: usize, j: usize) -> bool
 {
     let first = protocol::CHECKS * g;
     let position = checks.positions[first + j];
-    if intervals < position || !protocol::drift_right(checks.drifts[first + j]) {
+    let drift = checks.drifts[first + j];
+    if intervals < position || !protocol::drift_right(drift) {
         return true;
     }
     0 < j && position <= checks.positions[first + (j - 1)]
@@ -127,6 +129,12 @@ pub fn checks(intervals: u32, checks: &Checks<'_>) -> Result<(), Refusal>
     Ok(())
 }
 
+fn wrong_line(quantity: u32, factor: u32) -> bool
+    ensures { result ≡ either (ltb quantity_most quantity) (ltb factor_most factor) }
+{
+    protocol::QUANTITY_MOST < quantity || protocol::FACTOR_MOST < factor
+}
+
 // How many fuel lines there are, then each. Ruled out: an entry named where there are too many; 65 lines accepted.
 pub fn fuels(fuel: &Fuel<'_>) -> Result<(), Refusal>
     requires { length (fuel_in fuel.now).factor ≡ length (fuel_in fuel.now).quantity }
@@ -136,7 +144,7 @@ pub fn fuels(fuel: &Fuel<'_>) -> Result<(), Refusal>
         return Err(Refusal::Fuel(protocol::FUELS));
     }
     for line in 0..fuel.quantity.len() {
-        if protocol::QUANTITY_MOST < fuel.quantity[line] || protocol::FACTOR_MOST < fuel.factor[line] {
+        if wrong_line(fuel.quantity[line], fuel.factor[line]) {
             return Err(Refusal::Fuel(line));
         }
     }

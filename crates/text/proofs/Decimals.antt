@@ -9,18 +9,13 @@ use native.Mathlib.Omega.{arith}
 use lib.Dec.{ltb}
 use lib.ListN.{length, get_or, take, length-append, get_or-append}
 use lib.Seq.{get_or_at, get_or-append_seam, take-suc, take-append_seam, take-append-le}
-use borrow.Author.Tests.{lt-ltb, le-ltb, ltb-true, ltb-false}
+use borrow.Author.Tests.{lt-ltb, le-ltb, ltb-false}
+use Rattle.std.proofs.lemmas.Bool.{cases_lt, cases_order}
 use Rattle.text.specs.Decimal.{dec, digits_by}
 
+-- `cases_lt` by the name that other crates use.
 pub below_or : (m n : ℕ) → (m < n) ⊎ (n ≤ m)
-below_or m n = by (ltb m n) refl
-  where
-    by : (b : Bool) → ltb m n ≡ b → (m < n) ⊎ (n ≤ m)
-    by true e = inl (ltb-true m n e)
-    by false e = inr (ltb-false m n e)
-
-pub order : (m n : ℕ) → (m < n) ⊎ ((m ≡ n) ⊎ (n < m))
-order m n = ⊎_elim inl (λ h. inr (⊎_elim (λ g. inr g) (λ g. inl (omega arith)) (below_or n m))) (below_or m n)
+below_or = cases_lt
 
 -- Fuel that is enough is enough.
 same : (f g : ℕ) (b : Bool) (v : ℕ) → ltb v 10 ≡ b → v < f → v < g → digits_by f b v ≡ digits_by g b v
@@ -52,7 +47,7 @@ dec_ten v d hv hd =
 ind_by : (P : ℕ → Type 0) → ((v : ℕ) → v < 10 → P v) → ((v : ℕ) → 10 ≤ v → P (v / 10) → P v) → (f v : ℕ) → v < f → P v
 ind_by P one more zero v h = absurd (omega arith)
 ind_by P one more (suc f) v h =
-    ⊎_elim (λ s. one v s) (λ b. more v b (ind_by P one more f (v / 10) (omega arith))) (below_or v 10)
+    ⊎_elim (λ s. one v s) (λ b. more v b (ind_by P one more f (v / 10) (omega arith))) (cases_lt v 10)
 
 -- Induction over the digits.
 pub dec_ind : (P : ℕ → Type 0) → ((v : ℕ) → v < 10 → P v) → ((v : ℕ) → 10 ≤ v → P (v / 10) → P v) → (v : ℕ) → P v
@@ -118,10 +113,8 @@ digits_more v h p = record {
     at : (i : ℕ) → i < length (dec (v / 10)) + 1 → Digit (get_or (dec (v / 10) ++ ((48 + v % 10) ∷ [])) i 0)
     at i hi =
         ⊎_elim (λ s. rw (get_or-append (dec (v / 10)) ((48 + v % 10) ∷ []) 0 i s) (p.each i s))
-        (⊎_elim
-        (λ e. rw (get_or_at (dec (v / 10)) (48 + v % 10) [] 0 i (sym e)) (record { low = omega arith; high = omega arith }))
-        (λ s. absurd (omega arith)))
-        (order i (length (dec (v / 10))))
+        (λ s. rw (get_or_at (dec (v / 10)) (48 + v % 10) [] 0 i (omega arith)) (record { low = omega arith; high = omega arith }))
+        (cases_lt i (length (dec (v / 10))))
 
 pub digits : (v : ℕ) → Digits v
 digits = dec_ind Digits digits_one digits_more
@@ -174,7 +167,7 @@ module _ (w v c e : ℕ) (r s : List ℕ) (he : e < 48) (eq : dec w ++ (e ∷ s)
       (rw there at ((digits w).each _ h), positive h, total)
     where
       positive : length (dec v) < length (dec w) → 0 < v
-      positive h = ⊎_elim (λ p. p) (λ z. absurd (not_zero (omega arith))) (below_or 0 v)
+      positive h = ⊎_elim (λ p. p) (λ z. absurd (not_zero (omega arith))) (cases_lt 0 v)
         where
           not_zero : v ≡ 0 → ⊥
           not_zero z =
@@ -186,7 +179,7 @@ module _ (w v c e : ℕ) (r s : List ℕ) (he : e < 48) (eq : dec w ++ (e ∷ s)
               omega arith
 
   pub follows : Follows w v c e
-  follows = ⊎_elim (λ h. inr (longer h)) (⊎_elim (λ h. inl (equal h)) (λ h. absurd (shorter h))) (order (length (dec v)) (length (dec w)))
+  follows = ⊎_elim (λ h. inl (equal h)) (⊎_elim (λ h. inr (longer h)) (λ h. absurd (shorter h))) (cases_order (length (dec v)) (length (dec w)))
 
 abbrev pub tens : ℕ → ℕ
 tens zero = 1
@@ -198,7 +191,7 @@ dec_length zero v h = rw (dec_one v h) (omega arith)
 dec_length (suc k) v h =
     ⊎_elim (λ s. rw (dec_one v s) (omega arith))
     (λ b. rw (dec_more v b, length-append) (omega (arith, dec_length k (v / 10) (omega arith))))
-    (below_or v 10)
+    (cases_lt v 10)
 
 -- No 64-bit number has more than 20 digits.
 pub dec_20 : (v : ℕ) → v < 18446744073709551616 → length (dec v) ≤ 20

@@ -6,14 +6,16 @@ use mathlib.Core.List.{List, [], ◌∷◌, ◌++◌, append_assoc, append-nil}
 use mathlib.Core.Logic.{⊎_elim}
 use native.Mathlib.Omega.{arith}
 use lib.ListN.{length, get_or, take, drop, length-append, take-append-drop}
+use Rattle.std.proofs.lemmas.List.{append_cancel_left}
+use Rattle.std.proofs.lemmas.Bool.{cases_lt, cases_order}
 use lib.Seq.{take-suc, take-append_seam, take-append-le, drop-append_seam, drop-append-le, length-take-le, take-take, get_or-take, get_or-append-add}
 use Rattle.text.specs.Form.{Form, Of, Begun, Started, Stands, ReadAs, Broken, RefusedAt}
-use Rattle.text.proofs.Decimals.{below_or, order}
 
 -- ---- lists
 
+-- `append_cancel_left` by the name that other crates use.
 pub cancel : (a x y : List ℕ) → a ++ x ≡ a ++ y → x ≡ y
-cancel a x y e = sym (drop-append_seam a x) ∙ ap (drop (length a)) e ∙ drop-append_seam a y
+cancel = append_cancel_left
 
 -- Of two texts that agree, the longer begins with the shorter.
 pub splits : (a b p q : List ℕ) → a ++ b ≡ p ++ q → length p ≤ length a → (m : List ℕ) × (a ≡ p ++ m) × (m ++ b ≡ q)
@@ -58,7 +60,7 @@ pub stands_grows : (t : List ℕ) (i j k : ℕ) (v w : List ℕ) → Stands t i 
 stands_grows t i j k v w s r h =
     let g : (m : List ℕ) × (take k t ≡ take j t ++ m) = take_grows t j k h in (
       g.0,
-      cancel (take i t) w (v ++ g.0)
+      append_cancel_left (take i t) w (v ++ g.0)
           (sym r.is ∙ g.1 ∙ ap (λ (l : List ℕ). l ++ g.0) s.is ∙ append_assoc (take i t) v g.0),
     )
 
@@ -91,10 +93,10 @@ module _ {A : Type 0} (f : Form A) (free : Free f) where
       (ap (λ (l : List ℕ). l ++ (m ++ (s.next ∷ s.rest))) (sym o.is) ∙ long ∙ sym (append-nil (f.text w.value)))
       in
       nonempty m s.next s.rest
-      (cancel q (m ++ (s.next ∷ s.rest)) [] (long ∙ ap f.text (sym same) ∙ sym o.is ∙ sym (append-nil q)))
+      (append_cancel_left q (m ++ (s.next ∷ s.rest)) [] (long ∙ ap f.text (sym same) ∙ sym o.is ∙ sym (append-nil q)))
 
   pub broken_not_read : (t : List ℕ) (i k stop : ℕ) (a : A) → Broken (Of f) t i k → ReadAs f t i stop a → ⊥
-  broken_not_read t i k stop a b r = ⊎_elim past before (below_or k stop)
+  broken_not_read t i k stop a b r = ⊎_elim past before (cases_lt k stop)
     where
       o : Of f (f.text a)
       o = record { value = a; taken = r.taken; is = refl }
@@ -115,7 +117,7 @@ module _ {A : Type 0} (f : Form A) (free : Free f) where
   pub read_once : (t : List ℕ) (i p q : ℕ) (a b : A) → i ≤ length t → ReadAs f t i p a → ReadAs f t i q b → (a ≡ b) × (p ≡ q)
   read_once t i p q a b h r s =
       let e : f.text a ++ drop p t ≡ f.text b ++ drop q t =
-      cancel (take i t) (f.text a ++ drop p t) (f.text b ++ drop q t)
+      append_cancel_left (take i t) (f.text a ++ drop p t) (f.text b ++ drop q t)
       (sym (append_assoc (take i t) (f.text a) (drop p t)) ∙ ap (λ (l : List ℕ). l ++ drop p t) (sym r.stands.is)
       ∙ take-append-drop p t ∙ rest_of t q ∙ ap (λ (l : List ℕ). l ++ drop q t) s.stands.is
       ∙ append_assoc (take i t) (f.text b) (drop q t))
@@ -143,9 +145,9 @@ broken_before L t i j k b d h =
 
 pub broken_once : (L : List ℕ → Type 0) (t : List ℕ) (i j k : ℕ) → Broken L t i j → Broken L t i k → j ≡ k
 broken_once L t i j k b d =
-    ⊎_elim (λ h. absurd (broken_before L t i j k b d h))
-    (⊎_elim (λ e. e) (λ h. absurd (broken_before L t i k j d b h)))
-    (order j k)
+    ⊎_elim (λ e. e)
+    (⊎_elim (λ h. absurd (broken_before L t i j k b d h)) (λ h. absurd (broken_before L t i k j d b h)))
+    (cases_order j k)
 
 -- ---- whole texts
 
@@ -160,9 +162,9 @@ refused_before L t j k a b h =
 -- The offset of a refusal is unique.
 pub refused_once : (L : List ℕ → Type 0) (t : List ℕ) (j k : ℕ) → RefusedAt L t j → RefusedAt L t k → j ≡ k
 refused_once L t j k a b =
-    ⊎_elim (λ h. absurd (refused_before L t j k a b h))
-    (⊎_elim (λ e. e) (λ h. absurd (refused_before L t k j b a h)))
-    (order j k)
+    ⊎_elim (λ e. e)
+    (⊎_elim (λ h. absurd (refused_before L t j k a b h)) (λ h. absurd (refused_before L t k j b a h)))
+    (cases_order j k)
 
 -- Two languages with the same texts refuse alike.
 pub refused_alike : (L M : List ℕ → Type 0) → ((p : List ℕ) → L p → M p) → ((p : List ℕ) → M p → L p)

@@ -4,7 +4,6 @@ pub mod Keyed
 pub mod Numbers
 pub mod Keys
 pub mod Writing
-pub mod Signs
 pub mod Lines
 pub mod Settled
 pub mod Tables

@@ -2,7 +2,6 @@
 -- Assumes nothing.
 use Prim.Native.Nat.{ℕ, suc, ◌+◌, ◌*◌, ◌-◌, ◌≤◌, ◌<◌}
 use mathlib.Core.Path.{◌≡◌, refl, sym, ap, ◌∙◌, subst}
-use mathlib.Core.Bool.{Bool, true, false}
 use mathlib.Core.List.{List, [], ◌∷◌, ◌++◌, append_assoc, append-nil}
 use mathlib.Core.Logic.{◌⊎◌, inl, inr, ⊎_elim}
 use native.Mathlib.Omega.{arith}
@@ -11,13 +10,12 @@ use native.Mathlib.Numerals.{add-one}
 use lib.ListN.{length, get_or, take, drop, get_or-append}
 use lib.Seq.{drop-cons, length-take-le, take-suc}
 use lib.IntN.{ℤ, pos, negsuc}
-use lib.Dec.{ltb}
-use borrow.Author.Tests.{lt-ltb, le-ltb}
-use Rattle.text.specs.Form.{Of, Begun, Started, Stands, ReadAs, Broken}
+use Rattle.std.proofs.lemmas.List.{append_cancel_left}
+use Rattle.text.specs.Form.{Of, Begun, Started, Stands, Broken}
 use Rattle.text.specs.Decimal.{dec, decimal, Range, Fit, number, plain, signed}
 use Rattle.text.specs.Line.{line}
 use Rattle.text.proofs.Decimals.{Digit, digits, dec_one, follows, Follows, value, value_dec, value_take, dec_ten}
-use Rattle.text.proofs.Forms.{Free, cancel, stands_none, stands_one, stands_join}
+use Rattle.text.proofs.Forms.{Free, stands_none, stands_one, stands_join}
 
 -- ---- the first byte of a number
 
@@ -70,7 +68,7 @@ pub line_free : (key : List ℕ) (r : Range) → Free (line key r)
 line_free key r = record {
   apart = λ y z p q hy hz eq.
       (number_free r 10 (omega arith)).apart y z p q hy hz
-      (cancel key _ _ (sym (append_assoc key (decimal y ++ (10 ∷ [])) p) ∙ eq ∙ append_assoc key (decimal z ++ (10 ∷ [])) q));
+      (append_cancel_left key _ _ (sym (append_assoc key (decimal y ++ (10 ∷ [])) p) ∙ eq ∙ append_assoc key (decimal z ++ (10 ∷ [])) q));
 }
 
 -- ---- where an unsigned number breaks
@@ -137,16 +135,7 @@ next_digit t i k v d h hv hd e s =
 pub number_ends : (t : List ℕ) (i k e : ℕ) (w : List ℕ) → k < length t → get_or t k 0 ≡ e → Stands t i k w → Stands t i (k + 1) (w ++ (e ∷ []))
 number_ends t i k e w h eq s = rw (add-one k) (subst (λ (c : ℕ). Stands t i (suc k) (w ++ (c ∷ []))) eq (stands_one t i k w s h))
 
--- r says whether m is below n
-pub tells : (m n : ℕ) (r : Bool) → (r ≡ true → m < n) → (r ≡ false → n ≤ m) → r ≡ ltb m n
-tells m n true below above = sym (lt-ltb m n (below refl))
-tells m n false below above = sym (le-ltb m n (above refl))
-
 -- ---- signed numbers
-
-pub plus_read : (t : List ℕ) (i stop below most e v : ℕ) → ReadAs (number (plain 0 most) e) t i stop (pos v) → ReadAs (number (signed below most) e) t i stop
-    (pos v)
-plus_read t i stop below most e v r = record { taken = r.taken; stands = r.stands }
 
 plus_of : (below most e : ℕ) (p : List ℕ) → Of (number (plain 0 most) e) p → Of (number (signed below most) e) p
 plus_of below most e p o =
@@ -189,16 +178,6 @@ minus_stands : (t : List ℕ) (i : ℕ) → i < length t → get_or t i 0 ≡ 45
 minus_stands t i h e =
     let s : Stands t i (suc i) ([] ++ (get_or t i 0 ∷ [])) = stands_one t i i [] (stands_none t i (omega arith)) h in
     rw (add-one i) (subst (λ (c : ℕ). Stands t i (suc i) (c ∷ [])) e s)
-
-pub minus_read : (t : List ℕ) (i stop below most e v : ℕ) → i < length t → get_or t i 0 ≡ 45
-    → ReadAs (number (plain 1 below) e) t (i + 1) stop (pos v) → ReadAs (number (signed below most) e) t i stop (negsuc (v - 1))
-minus_read t i stop below most e v h c r =
-    let back : suc (v - 1) ≡ v = omega (arith, r.taken.0) in
-    record {
-      taken = omega (arith, r.taken.0, r.taken.1);
-      stands = subst (λ (n : ℕ). Stands t i stop (45 ∷ (dec n ++ (e ∷ [])))) (sym back)
-          (stands_join t i (i + 1) stop (45 ∷ []) (dec v ++ (e ∷ [])) (minus_stands t i h c) r.stands);
-    }
 
 minus_of : (below most e : ℕ) (p : List ℕ) → Of (number (plain 1 below) e) p → Of (number (signed below most) e) (45 ∷ p)
 minus_of below most e p o =

@@ -8,12 +8,14 @@ use native.Mathlib.Omega.{arith}
 use lib.ListN.{length, get_or, take, drop, length-append, take-append-drop}
 use lib.Seq.{take_all}
 use lib.IntN.{ℤ, pos, negsuc}
+use Rattle.std.proofs.lemmas.List.{append_cancel_left}
 use Rattle.text.specs.Form.{Of, Begun, Stands, ReadAs, Broken, RefusedAt}
 use Rattle.text.specs.Decimal.{Fit, Range, decimal}
 use Rattle.text.specs.Line.{Entry, line_of, line, lines_of, AllFit, lines}
 use Rattle.text.specs.Answer.{Put}
-use Rattle.text.proofs.Decimals.{below_or, dec_20, dec_length}
-use Rattle.text.proofs.Forms.{Free, cancel, splits, started_past, stands_one, stands_join, stands_none}
+use Rattle.std.proofs.lemmas.Bool.{cases_lt}
+use Rattle.text.proofs.Decimals.{dec_20, dec_length}
+use Rattle.text.proofs.Forms.{splits, started_past, stands_one, stands_join, stands_none}
 use Rattle.text.proofs.Numbers.{line_free}
 use Rattle.text.proofs.Writing.{put-join, line_length}
 
@@ -30,12 +32,9 @@ lines_apart (e ∷ es) (x ∷ xs) (y ∷ ys) r s hx hy eq =
     let same : x ≡ y = (line_free e.key e.range).apart x y (lines_of es xs ++ r) (lines_of es ys ++ s) hx.0 hy.0 q in
     let more : xs ≡ ys =
     lines_apart es xs ys r s hx.1 hy.1
-    (cancel (line_of e.key x) (lines_of es xs ++ r) (lines_of es ys ++ s)
+    (append_cancel_left (line_of e.key x) (lines_of es xs ++ r) (lines_of es ys ++ s)
     (q ∙ ap (λ (z : ℤ). line_of e.key z ++ (lines_of es ys ++ s)) (sym same)))
     in cc
-
-pub lines_free : (es : List Entry) → Free (lines es)
-lines_free es = record { apart = lines_apart es }
 
 -- Two texts of one table are equal only if their values are.
 pub lines_inj : (es : List Entry) (xs ys : List ℤ) → AllFit es xs → AllFit es ys → lines_of es xs ≡ lines_of es ys → xs ≡ ys
@@ -113,7 +112,7 @@ module _ (es : List Entry) (t : List ℕ) (p : ℕ) (zs : List ℤ) (a : ReadAs 
           lines_apart es zs o.value (get_or t p 0 ∷ b.rest) [] a.taken o.taken (is ∙ sym (append-nil (lines_of es o.value)))
           in
           let nil : get_or t p 0 ∷ b.rest ≡ [] =
-          cancel (lines_of es zs) (get_or t p 0 ∷ b.rest) [] (is ∙ ap (lines_of es) (sym same) ∙ sym (append-nil (lines_of es zs)))
+          append_cancel_left (lines_of es zs) (get_or t p 0 ∷ b.rest) [] (is ∙ ap (lines_of es) (sym same) ∙ sym (append-nil (lines_of es zs)))
           in
           omega (arith, ap length nil)
 
@@ -127,7 +126,7 @@ module _ (es : List Entry) (t : List ℕ) (p : ℕ) (zs : List ℤ) (a : ReadAs 
         o.is ∙ ap (lines_of (es ++ (e ∷ rest))) s.2 ∙ lines_append es (e ∷ rest) s.0 s.1 s.3
         in
         let same : zs ≡ s.0 = lines_apart es zs s.0 w (lines_of (e ∷ rest) s.1) a.taken s.3 is in
-        first s.1 s.4 (cancel (lines_of es zs) w (lines_of (e ∷ rest) s.1)
+        first s.1 s.4 (append_cancel_left (lines_of es zs) w (lines_of (e ∷ rest) s.1)
         (is ∙ ap (λ (l : List ℤ). lines_of es l ++ lines_of (e ∷ rest) s.1) (sym same)))
       where
         first : (ys : List ℤ) → AllFit (e ∷ rest) ys → w ≡ lines_of (e ∷ rest) ys → (y : ℤ) × (m : List ℕ) × Fit e.range y × (w ≡ line_of e.key y ++ m)
@@ -158,7 +157,7 @@ module _ (es : List Entry) (t : List ℕ) (p : ℕ) (zs : List ℤ) (a : ReadAs 
         (λ h.
         never ((b.read ++ (get_or t k 0 ∷ [])) ++ g.rest) v.1 v.0 v.2 v.3 h ((get_or t k 0 ∷ []) ++ g.rest)
         (append_assoc b.read (get_or t k 0 ∷ []) g.rest))
-        (below_or (length b.read) (length (line_of e.key v.0)))
+        (cases_lt (length b.read) (length (line_of e.key v.0)))
       where
         goes_on : k < length t → (x : List ℕ) (y : ℤ) (m : List ℕ) → Fit e.range y → (b.read ++ (get_or t k 0 ∷ [])) ++ x ≡ line_of e.key y ++ m
             → length (b.read ++ (get_or t k 0 ∷ [])) ≤ length (line_of e.key y) → ⊥
@@ -180,7 +179,7 @@ module _ (es : List Entry) (t : List ℕ) (p : ℕ) (zs : List ℤ) (a : ReadAs 
       ends = longer;
       none =
           λ x. ⊎_elim (λ h. longer h (record { rest = drop (suc k) t; belongs = subst (Of (lines (es ++ (e ∷ rest)))) (sym (take-append-drop (suc k) t)) x }))
-          (λ h. at_end h x) (below_or k (length t));
+          (λ h. at_end h x) (cases_lt k (length t));
     }
       where
         o : Of (line e.key e.range) (b.read ++ (b.begins.next ∷ b.begins.rest))

@@ -5,7 +5,7 @@ use mathlib.Core.List.{List, [], ◌∷◌, ◌++◌}
 use native.Mathlib.Omega.{arith}
 use native.Mathlib.Nat.{add-zero, add-suc, suc-add}
 use native.Mathlib.Numerals.{add-one}
-use lib.ListN.{length, get_or, take, drop, set, length-append, take-append-drop}
+use lib.ListN.{length, get_or, take, drop, set, length-append}
 use lib.Seq.{sets, sets-eq, take-suc, length-take-le, length-sets}
 use lib.IntN.{ℤ}
 use Rattle.text.specs.Decimal.{dec, decimal}
@@ -71,15 +71,3 @@ put_leads w old new n p h =
       is = p.is ∙ sets-eq w old 0 (omega (arith, h)) ∙ ap (λ (k : ℕ). w ++ drop k old) (sym p.stops);
       part = sym (length-take-le n new (omega (arith, p.stops, put_long p)));
     }
-
-pub leads_long : (w old new : List ℕ) (n : ℕ) → Leads w old new n → length new ≡ length old
-leads_long w old new n x =
-    omega (
-      arith,
-      ap length x.is,
-      length-append w (drop n old),
-      x.size,
-      length-take-le n old x.room,
-      length-append (take n old) (drop n old),
-      ap length (take-append-drop n old),
-    )

@@ -1,28 +1,20 @@
 -- What the readers' answers mean, over any form of numbers.
-use Rattle.std.specs.Prelude.{ℕ, ◌+◌, ◌^◌, ◌≤◌, ◌<◌, ◌≡◌, List, ◌++◌, length, take, drop, get_or, ℤ, pos}
+use Rattle.std.specs.Prelude.{ℕ, ◌+◌, ◌^◌, ◌≤◌, ◌<◌, ◌≡◌, List, ◌++◌, length, take, drop, get_or, ℤ, pos, Result, Ok, Err}
 use Rattle.std.proofs.lemmas.List.Edits.{sets}
-use Rattle.text.specs.declared.Natural.{Natural}
-use Rattle.text.specs.declared.Signed.{Signed}
+use Rattle.text.specs.declared.Wrong.{Wrong}
 use Rattle.text.specs.Form.{Form, Of, ReadAs, Broken, Stands}
 
--- An unsigned value and the place after it, or the place where the text breaks off.
-abbrev pub NaturalIn : Form ℤ → List ℕ → ℕ → Natural → Type 0
-NaturalIn f t start (Natural.Value v stop) = ReadAs f t start stop (pos v)
-NaturalIn f t start (Natural.Wrong k) = Broken (Of f) t start k
+-- A value, of the number that `of` says, and the place after it, or the place where the text breaks off.
+abbrev pub ReadIn : {A : Type 0} → (A → ℤ) → Form ℤ → List ℕ → ℕ → Result (A × ℕ) Wrong → Type 0
+ReadIn of f t start (Ok (v, stop)) = ReadAs f t start stop (of v)
+ReadIn of f t start (Err w) = Broken (Of f) t start w.place
 
--- The same for a signed value.
-abbrev pub SignedIn : Form ℤ → List ℕ → ℕ → Signed → Type 0
-SignedIn f t start (Signed.Value z stop) = ReadAs f t start stop z
-SignedIn f t start (Signed.Wrong k) = Broken (Of f) t start k
+-- The same of an unsigned value, and of a signed one.
+abbrev pub NaturalIn : Form ℤ → List ℕ → ℕ → Result (ℕ × ℕ) Wrong → Type 0
+NaturalIn = ReadIn pos
 
--- The place of an answer that is wrong.
-abbrev pub wrong_at : Natural → ℕ
-wrong_at (Natural.Value v stop) = 0
-wrong_at (Natural.Wrong k) = k
-
-abbrev pub signed_wrong_at : Signed → ℕ
-signed_wrong_at (Signed.Value z stop) = 0
-signed_wrong_at (Signed.Wrong k) = k
+abbrev pub SignedIn : Form ℤ → List ℕ → ℕ → Result (ℤ × ℕ) Wrong → Type 0
+SignedIn = ReadIn (λ z. z)
 
 -- The first n bytes of the key stand in t from `start`, and no more of it does.
 pub record Matched (t : List ℕ) (start : ℕ) (key : List ℕ) (n : ℕ) : Type 0 where

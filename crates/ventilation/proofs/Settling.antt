@@ -8,21 +8,20 @@ use lib.ListN.{get_or}
 use Rattle.rows.specs.Rows.{pick, sum_to}
 use Rattle.rows.proofs.Laws.{room}
 use Rattle.rows.proofs.Sums.{sum_to_ext, sum_to_zero}
+use Rattle.std.proofs.Common.{Result, Ok, Err}
 use Rattle.refusals.specs.declared.Refusal.{Refusal}
-use Rattle.refusals.specs.declared.Verdict.{Verdict}
-use Rattle.refusals.specs.declared.Verdict.TheVariants.{Clean, Refused as Offended}
+use Rattle.refusals.specs.Table.{told_by}
 use Rattle.columns.specs.Streams.{Gas, gas_at, gas_right, gas_missing}
 use Rattle.columns.proofs.StreamLaws.{stream_part_at}
 use Rattle.balance.specs.Balance.{Moderate}
 use Rattle.steps.specs.Step.{Tells}
+use Rattle.steps.proofs.Verdicts.{verdict_tells}
 use Rattle.fractions.specs.Fair.{Fair}
 use Rattle.figures.specs.declared.Figures.{Figures}
-use Rattle.accounts.specs.declared.Answer.{Answer}
-use Rattle.accounts.specs.declared.Answer.TheVariants.{Accepted, Refused}
 use Rattle.accounts.specs.declared.Totals.{Totals}
 use Rattle.accounts.specs.Account.{counted}
 use Rattle.accounts.specs.Totals.{counted_in, replaced_in, totals_over}
-use Rattle.accounts.specs.Sheet.{fuel_sum, figures_from, told_in}
+use Rattle.accounts.specs.Sheet.{fuel_sum, figures_from}
 use Rattle.accounts.specs.Accounted.{outcome_given, Accounted}
 use Rattle.accounts.proofs.Adding.{moderate}
 use Rattle.accounts.proofs.Answers.{same_figures, never}
@@ -31,7 +30,6 @@ use Rattle.ventilation_exact.specs.Exact.{Possible, AllPossible, exact_reduction
 use Rattle.ventilation_exact.proofs.Demand3.{counted_of, counted_all, demand_3_of}
 use Rattle.ventilation_judge.specs.Call.{Call}
 use Rattle.ventilation_judge.specs.Order.{judged, steps_of}
-use Rattle.ventilation_judge.proofs.Laws.{judged_clean, judged_refused}
 use Rattle.ventilation_judge.proofs.Unrefused.{Unrefused, unrefused}
 use Rattle.ventilation_device.specs.Outcomes.{inlet_litres, exhaust_litres, entry_of}
 use Rattle.ventilation_device.specs.Device.{entry_at, outcome_at, inlet_of, exhaust_of, account_of}
@@ -89,7 +87,7 @@ module _ (c : Call) (before : Results) (x : Unrefused c) where
   -- ---- the litres
 
   inlet_at : (d : ℕ) → d < c.devices → reported_inlet (used_in c after) d ≡ inlet_of (air_in (lent_in c) d)
-  unfolding reported_inlet used_in inlet_of entry_at entry_of inlet_litres
+  unfolding reported_inlet used_in inlet_of entry_at entry_of
   inlet_at d h =
       sum_to_ext c.intervals
       (λ k. pick (counted (outcome_given after.outcome (d * c.intervals + k))) (inlet_litres (gas_at c.air.inlet (d * c.intervals + k))) 0)
@@ -98,7 +96,7 @@ module _ (c : Call) (before : Results) (x : Unrefused c) where
       ∙ ap (λ (n : ℕ). sum_to n (λ k. (entry_at (air_in (lent_in c) d) k).inlet)) (sym (row_long (lent_in c) c.devices (sound c x) d h))
 
   exhaust_at : (d : ℕ) → d < c.devices → reported_exhaust (used_in c after) d ≡ exhaust_of (air_in (lent_in c) d)
-  unfolding reported_exhaust used_in exhaust_of entry_at entry_of exhaust_litres
+  unfolding reported_exhaust used_in exhaust_of entry_at entry_of
   exhaust_at d h =
       sum_to_ext c.intervals
       (λ k. pick (counted (outcome_given after.outcome (d * c.intervals + k))) (exhaust_litres (gas_at c.air.exhaust (d * c.intervals + k))) 0)
@@ -136,37 +134,37 @@ module _ (c : Call) (before : Results) (x : Unrefused c) where
 
 -- ---- the call
 
--- what is told of the answer, through the definition that gives it
-told_by_lem : (c : Call) (a : Answer) → a ≡ answer_by (judged c) c → Tells (steps_of c) (told_in a)
-unfolding answer_by
-told_by_lem c a e =
-    record {
-      clear = λ x. ap told_in (e ∙ ap (λ (v : Verdict). answer_by v c) (judged_clean c x));
-      offended = λ r x. ap told_in (e ∙ ap (λ (v : Verdict). answer_by v c) (judged_refused c r x));
-    }
+-- the sheet changes nothing of what is told
+told_by_lem : (c : Call) (a : Result Figures Refusal) → a ≡ answer_by (judged c) c → Tells (steps_of c) (told_by a)
+unfolding answer_by judged
+told_by_lem c a e = subst (Tells (steps_of c)) (sym (same (judged c)) ∙ sym (ap told_by e)) (verdict_tells (steps_of c) (judged c) refl)
+  where
+    same : (v : Result Unit Refusal) → told_by (answer_by v c) ≡ told_by v
+    same (Ok clean) = refl
+    same (Err r) = refl
 
 -- refused: the answer is the refusal and nothing has changed
-pub settled_refused : (c : Call) (before : Results) (r : Refusal) → judged c ≡ Offended r → Settled c before before (Refused r)
+pub settled_refused : (c : Call) (before : Results) (r : Refusal) → judged c ≡ Err r → Settled c before before (Err r)
 unfolding answer_by results_by
 settled_refused c before r e =
     record {
-      answer = sym (ap (λ (v : Verdict). answer_by v c) e);
-      results = sym (ap (λ (v : Verdict). results_by v c before) e);
-      told = told_by_lem c (Refused r) (sym (ap (λ (v : Verdict). answer_by v c) e));
+      answer = sym (ap (λ (v : Result Unit Refusal). answer_by v c) e);
+      results = sym (ap (λ (v : Result Unit Refusal). results_by v c before) e);
+      told = told_by_lem c (Err r) (sym (ap (λ (v : Result Unit Refusal). answer_by v c) e));
       accounted = λ f q. never r f q;
       none_replaced = λ f q. never r f q;
       fair = λ f q. never r f q;
     }
 
 -- accepted: the figures, the row and the accounts that the definitions give, and what holds of them
-pub settled_accepted : (c : Call) (before after : Results) → judged c ≡ Clean → after ≡ results_of (lent_in c) c.devices before
-    → Settled c before after (Accepted (figures_of c))
+pub settled_accepted : (c : Call) (before after : Results) → judged c ≡ Ok tt → after ≡ results_of (lent_in c) c.devices before
+    → Settled c before after (Ok (figures_of c))
 unfolding answer_by results_by
 settled_accepted c before now e w =
     record {
-      answer = sym (ap (λ (v : Verdict). answer_by v c) e);
-      results = w ∙ sym (ap (λ (v : Verdict). results_by v c before) e);
-      told = told_by_lem c (Accepted (figures_of c)) (sym (ap (λ (v : Verdict). answer_by v c) e));
+      answer = sym (ap (λ (v : Result Unit Refusal). answer_by v c) e);
+      results = w ∙ sym (ap (λ (v : Result Unit Refusal). results_by v c before) e);
+      told = told_by_lem c (Ok (figures_of c)) (sym (ap (λ (v : Result Unit Refusal). answer_by v c) e));
       accounted = λ f q.
           subst₂ (λ (s : Results) (g : Figures). Accounted c.intervals c.devices s.outcome s.accounts g) (sym w)
           (same_figures (figures_of c) f q) (accounted_call c before (unrefused c e));
@@ -181,17 +179,17 @@ pub settled_call : (c : Call) (before : Results) → Settled c before (results_b
 unfolding answer_by results_by
 settled_call c before = by (judged c) refl
   where
-    by : (v : Verdict) → judged c ≡ v → Settled c before (results_by v c before) (answer_by v c)
-    by Clean e = settled_accepted c before (results_of (lent_in c) c.devices before) e refl
-    by (Offended r) e = settled_refused c before r e
+    by : (v : Result Unit Refusal) → judged c ≡ v → Settled c before (results_by v c before) (answer_by v c)
+    by (Ok tt) e = settled_accepted c before (results_of (lent_in c) c.devices before) e refl
+    by (Err r) e = settled_refused c before r e
 
-pub settled_made : (c : Call) (before after : Results) (t : Totals) (f : Figures) → judged c ≡ Clean
-    → AllWritten (lent_in c) c.devices before after t → f ≡ figures_of c → Settled c before after (Accepted f)
+pub settled_made : (c : Call) (before after : Results) (t : Totals) (f : Figures) → judged c ≡ Ok tt
+    → AllWritten (lent_in c) c.devices before after t → f ≡ figures_of c → Settled c before after (Ok f)
 settled_made c before after t f e w q =
-    subst (λ (g : Figures). Settled c before after (Accepted g)) (sym q) (settled_accepted c before after e w.results)
+    subst (λ (g : Figures). Settled c before after (Ok g)) (sym q) (settled_accepted c before after e w.results)
 
 -- any two results that the promise permits are equal, in answer, row and accounts
-pub settled_unique : (c : Call) (before one two : Results) (a b : Answer) → Settled c before one a → Settled c before two b → (a ≡ b) × (one ≡ two)
+pub settled_unique : (c : Call) (before one two : Results) (a b : Result Figures Refusal) → Settled c before one a → Settled c before two b → (a ≡ b) × (one ≡ two)
 settled_unique c before one two a b x y = (x.answer ∙ sym y.answer, x.results ∙ sym y.results)
 
 -- the sums fit

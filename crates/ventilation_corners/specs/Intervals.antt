@@ -16,17 +16,17 @@ entry outcome inlet exhaust = record { outcome = outcome; inlet = inlet; exhaust
 at_the_border : (entry_of (standard 1000 5000) (standard 1000 5000) 1 ≡ entry 0 50000 50000)
     × (entry_of (standard 1000 5000) (standard 16667 300) 1 ≡ entry 6 0 0)
     × (entry_of (standard 1000 5000) (standard 0 5000) 1 ≡ entry 0 50000 0)
-unfolding entry_of outcome_of inlet_litres exhaust_litres methane_litres methane_litres_in hundredths_of correction_down methane_litres_up methane_litres_up_in correction_up
+unfolding entry_of outcome_of methane_litres methane_litres_in hundredths_of correction_down methane_litres_up methane_litres_up_in correction_up
 at_the_border = (refl, refl, refl)
 
 -- nothing in and nothing out is counted, by flow and by CH4; status 2 is as 1
 both_none : (entry_of (standard 0 20000) (standard 0 20000) 1 ≡ entry 0 0 0) × (entry_of (standard 30000 0) (standard 30000 0) 2 ≡ entry 0 0 0)
-unfolding entry_of outcome_of inlet_litres exhaust_litres methane_litres methane_litres_in hundredths_of correction_down methane_litres_up methane_litres_up_in correction_up
+unfolding entry_of outcome_of methane_litres methane_litres_in hundredths_of correction_down methane_litres_up methane_litres_up_in correction_up
 both_none = (refl, refl)
 
 -- the same readings in both streams: 22,336,255 l in, rounded down, and 22,336,256 out, rounded up (rule 19.12)
 same_readings : (inlet_litres densest ≡ 22336255) × (exhaust_litres densest ≡ 22336256) × (entry_of densest densest 1 ≡ entry 6 0 0)
-unfolding entry_of outcome_of inlet_litres exhaust_litres methane_litres methane_litres_in hundredths_of correction_down methane_litres_up methane_litres_up_in correction_up
+unfolding entry_of outcome_of methane_litres methane_litres_in hundredths_of correction_down methane_litres_up methane_litres_up_in correction_up
 same_readings = (refl, refl, refl)
 
 -- a reading missing in either stream is 5, whichever of the four it is
@@ -44,5 +44,5 @@ first_lines = (refl, refl)
 
 -- each stream has its own flow, temperature and pressure: 10,000 m3 in, and 20,000 m3 out at 0.00 °C and 50,000 Pa
 own_readings : entry_of (standard 1000 5000) (gas_of 2000 100 (pos 0) 50000) 1 ≡ entry 0 50000 1060
-unfolding entry_of outcome_of inlet_litres exhaust_litres methane_litres methane_litres_in hundredths_of correction_down methane_litres_up methane_litres_up_in correction_up
+unfolding entry_of outcome_of methane_litres methane_litres_in hundredths_of correction_down methane_litres_up methane_litres_up_in correction_up
 own_readings = refl

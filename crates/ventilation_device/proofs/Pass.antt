@@ -1,21 +1,18 @@
 -- The pass over an oxidiser's row as a loop's invariant: row, counts and litres after the first i intervals. Start, step and end.
 -- Assumes nothing.
 use Prim.Native.Nat.{ℕ, ◌+◌, ◌-◌, ◌*◌, ◌≤◌, ◌<◌}
-use mathlib.Core.Path.{◌≡◌, refl, sym, ap, ◌∙◌, subst}
-use mathlib.Core.Bool.{true}
+use mathlib.Core.Path.{◌≡◌, sym, ap, ◌∙◌, subst}
 use mathlib.Core.List.{List, ◌++◌}
 use native.Mathlib.Omega.{arith}
 use mir.Syntax.{w64}
 use mir.Val.{Fits}
-use lib.IntN.{ℤ, pos}
-use lib.ListN.{length, get_or, drop, set, length-set, length-append, length-drop}
+use lib.ListN.{length, get_or, drop, set, length-set}
 use lib.Seq.{ext_get_or}
 use Rattle.rows.specs.Rows.{build, sum_to, count_of}
 use Rattle.rows.proofs.Laws.{build_done, length-build, get_or-build}
 use Rattle.rows.proofs.Sums.{sum_to_le, sum_to_bound, count_most}
 use Rattle.rows.proofs.More.{row_more, sum_more, count_more}
-use Rattle.columns.specs.Streams.{Air, gas_at, gas_right, AirWithin}
-use Rattle.columns.proofs.StreamLaws.{air_within}
+use Rattle.columns.specs.Streams.{Gas, Air, gas_at}
 use Rattle.volume.specs.Volume.{air_most}
 use Rattle.accounts.specs.Account.{outcome_kinds}
 use Rattle.ventilation_device.specs.declared.Entry.{Entry}
@@ -28,6 +25,12 @@ use Rattle.ventilation_device.proofs.Outcomes.{outcome_few, shared}
 pub entry_few : (a : Air) (k : ℕ) → outcome_at a k < 10
 unfolding entry_at
 entry_few a k = outcome_few (gas_at a.inlet k) (gas_at a.exhaust k) (get_or a.status k 0)
+
+-- what the code has of an interval is the interval's
+pub reads_entry : (a : Air) (i : ℕ) {inlet exhaust : Gas} {e : Entry} → inlet ≡ gas_at a.inlet i → exhaust ≡ gas_at a.exhaust i
+    → e ≡ entry_of inlet exhaust (get_or a.status i 0) → e ≡ entry_at a i
+unfolding entry_at
+reads_entry a i p q e = e ∙ (λ j. entry_of (p j) (q j) (get_or a.status i 0))
 
 module _ (a : Air) (x : Right a) where
   entry_shared : (k : ℕ) → k < intervals_of a → ((entry_at a k).exhaust ≤ (entry_at a k).inlet) × ((entry_at a k).inlet ≤ air_most)
@@ -43,9 +46,8 @@ module _ (a : Air) (x : Right a) where
 
 -- ---- the loop
 
-pub record Going (a : Air) (n : ℕ) (old o counts : List ℕ) (supplied left i : ℕ) : Type 0 where
+pub record Going (a : Air) (old o counts : List ℕ) (supplied left i : ℕ) : Type 0 where
   pub right : Right a
-  pub whole : n ≡ intervals_of a
   pub old_length : length old ≡ intervals_of a
   pub within : i ≤ intervals_of a
   pub outcome_built : o ≡ build i (outcome_at a) ++ drop i old
@@ -54,96 +56,44 @@ pub record Going (a : Air) (n : ℕ) (old o counts : List ℕ) (supplied left i 
   pub inlet : supplied ≡ sum_to i (λ k. (entry_at a k).inlet)
   pub exhaust : left ≡ sum_to i (λ k. (entry_at a k).exhaust)
 
-pub going_none : (a : Air) (n : ℕ) (old counts : List ℕ) → Right a → n ≡ intervals_of a → length old ≡ intervals_of a → length counts ≡ 10
-    → ((j : ℕ) → j < 10 → get_or counts j 0 ≡ 0) → Going a n old old counts 0 0 0
-going_none a n old counts x w e t z =
-    record {
-      right = x;
-      whole = w;
-      old_length = e;
-      within = omega arith;
-      outcome_built = refl;
-      ten = t;
-      each = z;
-      inlet = refl;
-      exhaust = refl;
-    }
-
-module _ {a : Air} {n : ℕ} {old o counts : List ℕ} {supplied left i : ℕ} (x : Going a n old o counts supplied left i) where
-  inside : i < n → i < intervals_of a
-  inside l = subst (λ (m : ℕ). i < m) x.whole l
-
-  few_intervals : n ≤ 35136
-  few_intervals = subst (λ (m : ℕ). m ≤ 35136) (sym x.whole) x.right.few
-
-  -- what is read there is right, the temperatures as the code has them
-  pub reads_right : i < n → (s t : ℤ) → s ≡ get_or a.inlet.temp i (pos 0) → t ≡ get_or a.exhaust.temp i (pos 0)
-      → (gas_right (record { flow = get_or a.inlet.flow i 0; ppm = get_or a.inlet.ppm i 0; temp = s; press = get_or a.inlet.press i 0 }) ≡ true)
-      × (gas_right (record { flow = get_or a.exhaust.flow i 0; ppm = get_or a.exhaust.ppm i 0; temp = t; press = get_or a.exhaust.press i 0 }) ≡ true)
-  reads_right l s t e f = (
-    subst (λ (z : ℤ). gas_right (record { flow = get_or a.inlet.flow i 0; ppm = get_or a.inlet.ppm i 0; temp = z; press = get_or a.inlet.press i 0 }) ≡ true)
-        (sym e) (x.right.right.inlet i (inside l)),
-    subst (λ (z : ℤ). gas_right
-        (record { flow = get_or a.exhaust.flow i 0; ppm = get_or a.exhaust.ppm i 0; temp = z; press = get_or a.exhaust.press i 0 }) ≡ true)
-        (sym f) (x.right.right.exhaust i (inside l)),
-  )
-
-  -- and its entry is the interval's
-  pub reads_entry : (s t : ℤ) → s ≡ get_or a.inlet.temp i (pos 0) → t ≡ get_or a.exhaust.temp i (pos 0) → (r : Entry)
-      → r
-      ≡ entry_of (record { flow = get_or a.inlet.flow i 0; ppm = get_or a.inlet.ppm i 0; temp = s; press = get_or a.inlet.press i 0 })
-      (record { flow = get_or a.exhaust.flow i 0; ppm = get_or a.exhaust.ppm i 0; temp = t; press = get_or a.exhaust.press i 0 })
-      (get_or a.status i 0)
-      → r ≡ entry_at a i
-  unfolding entry_at
-  reads_entry s t e f r q =
-      q
-      ∙ (λ j.
-      entry_of (record { flow = get_or a.inlet.flow i 0; ppm = get_or a.inlet.ppm i 0; temp = e j; press = get_or a.inlet.press i 0 })
-      (record { flow = get_or a.exhaust.flow i 0; ppm = get_or a.exhaust.ppm i 0; temp = f j; press = get_or a.exhaust.press i 0 })
-      (get_or a.status i 0))
-
+module _ {a : Air} {old o counts : List ℕ} {supplied left i : ℕ} (x : Going a old o counts supplied left i) where
   -- ---- one interval more
 
-  module _ (l : i < n) (e : Entry) (q : e ≡ entry_at a i) where
+  module _ (l : i < intervals_of a) (e : Entry) (q : e ≡ entry_at a i) where
     outcome_is : e.outcome ≡ outcome_at a i
     outcome_is = ap (λ (y : Entry). y.outcome) q
 
     pub going_few : e.outcome < 10
     going_few = subst (λ (k : ℕ). k < 10) (sym outcome_is) (entry_few a i)
 
-    pub going_slot : Fits w64 e.outcome × Fits w64 (e.outcome * 8)
-    going_slot = let k : e.outcome < 10 = going_few in (record { fits = omega arith }, record { fits = omega arith })
-
     pub slot_fits : Fits w64 (get_or counts e.outcome 0 + 1)
     slot_fits =
         let k = x.each e.outcome going_few in
         let m : count_of i (outcome_at a) e.outcome ≤ i = count_most i (outcome_at a) e.outcome in
-        record { fits = omega (arith, few_intervals, x.within, x.right.few) }
+        record { fits = omega (arith, x.within, x.right.few) }
 
     pub supplied_room : Fits w64 (supplied + e.inlet)
     supplied_room =
         let s = x.inlet in
         let u : e.inlet ≡ (entry_at a i).inlet = ap (λ (y : Entry). y.inlet) q in
-        record { fits = omega (arith, inlet_most a x.right i x.within, (entry_shared a x.right i (inside l)).1, x.within, x.right.few) }
+        record { fits = omega (arith, inlet_most a x.right i x.within, (entry_shared a x.right i l).1, x.within, x.right.few) }
 
     pub left_room : Fits w64 (left + e.exhaust)
     left_room =
         let s = x.exhaust in
         let u : e.exhaust ≡ (entry_at a i).exhaust = ap (λ (y : Entry). y.exhaust) q in
-        let v = entry_shared a x.right i (inside l) in
+        let v = entry_shared a x.right i l in
         record {
           fits = omega (arith, out_of_in a x.right i x.within, inlet_most a x.right i x.within, v.0, v.1, x.within, x.right.few);
         }
 
-    pub going_more : Going a n old (set o i e.outcome) (set counts e.outcome (get_or counts e.outcome 0 + 1)) (supplied + e.inlet) (left + e.exhaust) (i + 1)
+    pub going_more : Going a old (set o i e.outcome) (set counts e.outcome (get_or counts e.outcome 0 + 1)) (supplied + e.inlet) (left + e.exhaust) (i + 1)
     going_more =
         record {
           right = x.right;
-          whole = x.whole;
           old_length = x.old_length;
-          within = let z = inside l in omega arith;
-          outcome_built = row_more i (outcome_at a) old o e.outcome x.outcome_built (omega (arith, x.old_length, inside l)) outcome_is;
+          within = omega arith;
+          outcome_built = row_more i (outcome_at a) old o e.outcome x.outcome_built (omega (arith, x.old_length)) outcome_is;
           ten = length-set counts e.outcome (get_or counts e.outcome 0 + 1) ∙ x.ten;
           each =
               λ j z. count_more i (outcome_at a) counts e.outcome j outcome_is (subst (λ (m : ℕ). e.outcome < m) (sym x.ten) going_few) (x.each j z);
@@ -151,34 +101,16 @@ module _ {a : Air} {n : ℕ} {old o counts : List ℕ} {supplied left i : ℕ} (
           exhaust = sum_more i (λ k. (entry_at a k).exhaust) left e.exhaust x.exhaust (ap (λ (y : Entry). y.exhaust) q);
         }
 
-  -- ---- places, and the end
-
-  pub length_row : length o ≡ length old
-  length_row = ap length x.outcome_built ∙ built
-    where
-      built : length (build i (outcome_at a) ++ drop i old) ≡ length old
-      built = let w : i ≤ length old = omega (arith, x.within, x.old_length) in simp (length-append, length-build, length-drop) (omega arith)
-
-  pub inside_row : i < n → i < length o
-  inside_row l = omega (arith, length_row, x.old_length, inside l)
-
-  pub inside_series : i < n → AirWithin a i
-  inside_series l = air_within a (intervals_of a) i x.right.long (inside l)
-
-  pub index_fits : i < n → Fits w64 (i * 2) × Fits w64 (i * 4)
-  index_fits l = let m = few_intervals in (record { fits = omega arith }, record { fits = omega arith })
-
-  pub next_fits : i < n → Fits w64 (i + 1)
-  next_fits l = let m = few_intervals in record { fits = omega arith }
+  -- ---- the end
 
   -- no more leaves than enters
   pub left_in : left ≤ supplied
   left_in = omega (arith, out_of_in a x.right i x.within, x.inlet, x.exhaust)
 
-  pub going_all : n ≤ i → Filled a o (record { outcomes = counts; methane = supplied; destroyed = supplied - left; uncombusted = left })
+  pub going_all : intervals_of a ≤ i → Filled a o (record { outcomes = counts; methane = supplied; destroyed = supplied - left; uncombusted = left })
   unfolding account_of inlet_of exhaust_of
   going_all l =
-      let at : i ≡ intervals_of a = omega (arith, x.within, x.whole) in
+      let at : i ≡ intervals_of a = omega (arith, x.within) in
       let p : supplied ≡ inlet_of a = x.inlet ∙ ap (λ (m : ℕ). sum_to m (λ k. (entry_at a k).inlet)) at in
       let q : left ≡ exhaust_of a = x.exhaust ∙ ap (λ (m : ℕ). sum_to m (λ k. (entry_at a k).exhaust)) at in
       record {

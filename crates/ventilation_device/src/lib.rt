@@ -1,22 +1,16 @@
 // One oxidiser's row: the outcome of each interval, and the device's account.
 #![tactic(auto)]
 
-ghost use Rattle.std.specs.Prelude.{◌≤◌, ◌≡◌, true, length};
-ghost use Rattle.columns.specs.Streams.{gas_of, gas_missing, gas_right, air_of, stream_now, stream_at};
-ghost use Rattle.ventilation_device.specs.Outcomes.{entry_of};
+ghost use Rattle.std.specs.Prelude.{◌<◌, ◌≡◌, true, length};
+ghost use Rattle.columns.specs.Streams.{gas_missing, gas_right, gas_at, EachOf};
+ghost use Rattle.columns.specs.Lent.{stream_in, air_in};
+ghost use Rattle.ventilation_device.specs.Outcomes.{gas_in, entry_of};
 ghost use Rattle.ventilation_device.specs.Device.{Right, Filled};
 
 use accounts::{Account, OUTCOMES};
+use columns::{Air, Stream};
 use protocol::MISSING;
-
-// One stream in one interval, as recorded.
-#[derive(Clone, Copy)]
-pub struct Readings {
-    pub flow: u16,
-    pub ppm: u16,
-    pub temp: i16,
-    pub press: u32,
-}
+use volume::Gas;
 
 // An interval's outcome, and the methane litres that it counts for, those that enter and those that leave.
 #[derive(Clone, Copy)]
@@ -26,58 +20,46 @@ pub struct Entry {
     pub exhaust: u64,
 }
 
-// Whether one of a stream's readings is missing. Ruled out: a pressure of 0 taken for a reading; CH4 of 0 ppm taken for missing.
-fn lacks(g: Readings) -> bool
-    ensures { result ≡ gas_missing (gas_of g.flow g.ppm g.temp g.press) }
-{
-    if g.flow == MISSING {
-        return true;
+impl Entry {
+    // An interval that counts for nothing.
+    fn excluded(outcome: u8) -> Entry
+        ensures { result ≡ record { outcome = outcome; inlet = 0; exhaust = 0 } }
+    {
+        Entry {
+            outcome,
+            inlet: 0,
+            exhaust: 0,
+        }
     }
-    if g.ppm == MISSING {
-        return true;
-    }
-    if protocol::temp_missing(g.temp) {
-        return true;
-    }
-    g.press == 0
 }
 
-// An interval that counts for nothing.
-fn excluded(outcome: u8) -> Entry
-    ensures { result ≡ record { outcome = outcome; inlet = 0; exhaust = 0 } }
+// Whether one of a stream's readings is missing. Ruled out: a pressure of 0 taken for a reading; CH4 of 0 ppm taken for missing.
+fn lacks(g: Gas) -> bool
+    ensures { result ≡ gas_missing (gas_in g) }
 {
-    Entry {
-        outcome,
-        inlet: 0,
-        exhaust: 0,
-    }
+    g.flow == MISSING || g.content == MISSING || protocol::temp_missing(g.temp) || g.press == 0
 }
 
 // One interval. Ruled out: the inlet's flow used for the exhaust; an exhaust that is missing taken for none; as much out as in
 // excluded.
-pub fn settle(inlet: Readings, exhaust: Readings, status: u8) -> Entry
-    requires { (gas_right (gas_of inlet.flow inlet.ppm inlet.temp inlet.press) ≡ true)
-        × (gas_right (gas_of exhaust.flow exhaust.ppm exhaust.temp exhaust.press) ≡ true) }
-    ensures { result
-        ≡ entry_of (gas_of inlet.flow inlet.ppm inlet.temp inlet.press)
-        (gas_of exhaust.flow exhaust.ppm exhaust.temp exhaust.press) status }
+#[tactic(auto, unfolding(crate::specs::Outcomes::entry_of, crate::specs::Outcomes::outcome_of))]
+pub fn settle(inlet: Gas, exhaust: Gas, status: u8) -> Entry
+    requires { (gas_right (gas_in inlet) ≡ true) × (gas_right (gas_in exhaust) ≡ true) }
+    ensures { result ≡ entry_of (gas_in inlet) (gas_in exhaust) status }
 {
     if status == 0 {
-        return excluded(3);
+        return Entry::excluded(3);
     }
     if status == 3 {
-        return excluded(4);
+        return Entry::excluded(4);
     }
-    if lacks(inlet) {
-        return excluded(5);
+    if lacks(inlet) || lacks(exhaust) {
+        return Entry::excluded(5);
     }
-    if lacks(exhaust) {
-        return excluded(5);
-    }
-    let supplied = volume::methane_litres(inlet.flow, inlet.ppm, inlet.temp, inlet.press);
-    let left = volume::methane_litres_up(exhaust.flow, exhaust.ppm, exhaust.temp, exhaust.press);
+    let supplied = inlet.litres();
+    let left = exhaust.litres_up();
     if supplied < left {
-        return excluded(6);
+        return Entry::excluded(6);
     }
     Entry {
         outcome: 0,
@@ -86,54 +68,38 @@ pub fn settle(inlet: Readings, exhaust: Readings, status: u8) -> Entry
     }
 }
 
-// The outcome row of one device, and its account. Ruled out: a row left as it was; the exhaust of an excluded interval counted.
-pub fn fill_row(
-    inlet_flow: &[u16],
-    inlet_ppm: &[u16],
-    inlet_temp: &[i16],
-    inlet_press: &[u32],
-    exhaust_flow: &[u16],
-    exhaust_ppm: &[u16],
-    exhaust_temp: &[i16],
-    exhaust_press: &[u32],
-    status: &[u8],
-    outcome: &mut [u8],
-) -> Account
-    requires { Right
-        (air_of (stream_now inlet_flow inlet_ppm inlet_temp inlet_press)
-        (stream_now exhaust_flow exhaust_ppm exhaust_temp exhaust_press) status.now)
-        × (length outcome.old ≡ length status.now) }
-    ensures { Filled
-        (air_of (stream_at inlet_flow inlet_ppm inlet_temp inlet_press)
-        (stream_at exhaust_flow exhaust_ppm exhaust_temp exhaust_press) status.now)
-        outcome.new result }
+// One interval's readings of a stream, whose ppm are the content of its gas.
+fn gas(s: &Stream<'_>, i: usize) -> Gas
+    requires { EachOf (λ l. i < l) (stream_in s.now) }
+    ensures { gas_in result ≡ gas_at (stream_in s.now) i }
 {
-    let n = status.len();
+    Gas {
+        flow: s.flow[i],
+        content: s.ppm[i],
+        temp: s.temp[i],
+        press: s.press[i],
+    }
+}
+
+// The outcome row of one device, and its account. Ruled out: a row left as it was; the exhaust of an excluded interval counted.
+pub fn fill_row(air: &Air<'_>, outcome: &mut [u8]) -> Account
+    requires { Right (air_in air.now) × (length outcome.old ≡ length air.now.status.now) }
+    ensures { Filled (air_in air.now) outcome.new result }
+{
+    let Air {
+        inlet,
+        exhaust,
+        status,
+    } = *air;
     let mut outcomes = [0u64; OUTCOMES];
     let mut supplied: u64 = 0;
     let mut left: u64 = 0;
-    let mut i = 0;
-    while i < n {
-        let x = Readings {
-            flow: inlet_flow[i],
-            ppm: inlet_ppm[i],
-            temp: inlet_temp[i],
-            press: inlet_press[i],
-        };
-        let y = Readings {
-            flow: exhaust_flow[i],
-            ppm: exhaust_ppm[i],
-            temp: exhaust_temp[i],
-            press: exhaust_press[i],
-        };
-        let e = settle(x, y, status[i]);
-        let o = e.outcome;
-        outcome[i] = o;
-        let k = o as usize;
-        outcomes[k] += 1;
-        supplied = supplied + e.inlet;
-        left = left + e.exhaust;
-        i += 1;
+    for i in 0..status.len() {
+        let e = settle(gas(&inlet, i), gas(&exhaust, i), status[i]);
+        outcome[i] = e.outcome;
+        outcomes[e.outcome as usize] += 1;
+        supplied += e.inlet;
+        left += e.exhaust;
     }
     Account {
         outcomes,

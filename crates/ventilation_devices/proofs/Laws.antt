@@ -3,17 +3,14 @@
 use Prim.Native.Nat.{ℕ, ◌+◌, ◌*◌, ◌≤◌, ◌<◌}
 use mathlib.Core.Path.{◌≡◌, sym, ap, ◌∙◌, subst}
 use mathlib.Core.List.{List}
-use native.Mathlib.Nat.{le_trans, add-sub_cancel_left}
+use native.Mathlib.Nat.{le_trans}
 use native.Mathlib.Omega.{arith}
 use lib.Dec.{lit<}
 use lib.ListN.{length, get_or}
 use Rattle.rows.specs.Rows.{build, sum_to, count_of, hit, put}
-use Rattle.rows.proofs.Laws.{length-build, get_or-build, length-put}
+use Rattle.rows.proofs.Laws.{length-build, get_or-build}
 use Rattle.rows.proofs.Sums.{sum_to_ext, sum_to_zero}
 use Rattle.columns.specs.Streams.{Air, gas_at, AirLong, AirRight}
-use Rattle.columns.specs.Series.{row_of}
-use Rattle.columns.proofs.Laws as Series
-use Rattle.columns.proofs.Laws.{part_end}
 use Rattle.columns.proofs.StreamLaws.{air_part_long, air_part_right}
 use Rattle.balance.specs.Balance.{device_most}
 use Rattle.volume.specs.Volume.{air_most}
@@ -115,26 +112,17 @@ module _ (l : Lent) (devices : ℕ) (x : Sound l devices) where
         shares = λ d h. account_shares (air_in l d) (right d h);
       }
 
--- ---- what is lent on to one device's function, and what it leaves in the whole row
+-- ---- what one device's function leaves in the whole row
 
 module _ (l : Lent) (devices : ℕ) (x : Sound l devices) (d : ℕ) (h : d < devices) where
-  pub part_right : (o : List ℕ) → length o ≡ devices * l.intervals → Right (air_in l d) × (length (row_of o l.intervals d) ≡ intervals_of (air_in l d))
-  part_right o e = (right l devices x d h, Series.row_long o devices l.intervals d h e ∙ sym (row_long l devices x d h))
-
-  -- a part of the device's length leaves the whole row as long as it was
-  pub row_kept : (xs o : List ℕ) (a : Account) → Filled (air_in l d) o a → length xs ≡ devices * l.intervals
-      → length (put xs (d * l.intervals) (d * l.intervals + l.intervals) o) ≡ length xs
-  row_kept xs o a y q =
-      length-put xs (d * l.intervals) (d * l.intervals + l.intervals) o (omega arith) (part_end d devices l.intervals (length xs) h q)
-      (ap length y.outcome_built ∙ length-build (intervals_of (air_in l d)) (outcome_at (air_in l d)) ∙ row_long l devices x d h ∙
-      sym (add-sub_cancel_left (d * l.intervals) l.intervals))
-
-  pub row_written : (xs o : List ℕ) (a : Account) → Filled (air_in l d) o a → Written l d xs (put xs (d * l.intervals) (d * l.intervals + l.intervals) o) a
+  pub row_written : (xs o : List ℕ) (a : Account) {part : Air} → part ≡ air_in l d → Filled part o a
+      → Written l d xs (put xs (d * l.intervals) (d * l.intervals + l.intervals) o) a
   unfolding outcome_part
-  row_written xs o a y =
+  row_written xs o a e y =
+      let z : Filled (air_in l d) o a = subst (λ (b : Air). Filled b o a) e y in
       record {
         outcome_built =
             ap (put xs (d * l.intervals) (d * l.intervals + l.intervals))
-            (y.outcome_built ∙ ap (λ (m : ℕ). build m (outcome_at (air_in l d))) (row_long l devices x d h));
-        account = y.account;
+            (z.outcome_built ∙ ap (λ (m : ℕ). build m (outcome_at (air_in l d))) (row_long l devices x d h));
+        account = z.account;
       }

@@ -4,16 +4,22 @@ use Rattle.std.specs.Prelude.{ℕ, ◌+◌, ◌*◌, ◌≤◌, ◌≡◌, List}
 use Rattle.rows.specs.Rows.{build, join, put}
 use Rattle.protocol.specs.Ranges.{intervals_most, devices_most}
 use Rattle.columns.specs.Streams.{Air, AirLong, AirRight, air_part}
+use Rattle.columns.specs.Lent as Columns
 use Rattle.accounts.specs.declared.Account.{Account}
 use Rattle.accounts.specs.declared.Totals.{Totals}
 use Rattle.accounts.specs.Account.{accounts_of}
 use Rattle.accounts.specs.Totals.{totals_over}
 use Rattle.ventilation_device.specs.Device.{outcome_at, account_of}
+use Rattle.ventilation_devices.specs.declared.Lent as Declared
 
 -- the records of all devices, device 0 first
 pub record Lent : Type 0 where
   pub intervals : ℕ
   pub air : Air
+
+-- what the code lends, as the lists that it holds
+abbrev pub lent_in : Declared.Lent → Lent
+lent_in l = record { intervals = l.intervals; air = Columns.air_in l.air }
 
 -- device d's records, and nothing of its neighbours'
 abbrev pub air_in : Lent → ℕ → Air

@@ -7,7 +7,7 @@ use mathlib.Core.List.{List, [], ◌∷◌}
 use lib.ListN.{length}
 use Rattle.rows.specs.Rows.{FirstOf}
 use Rattle.refusals.specs.declared.Refusal.{Refusal}
-use Rattle.refusals.specs.declared.Verdict.TheVariants.{Refused}
+use Rattle.std.proofs.Common.{Err}
 use Rattle.steps.specs.Step.{Step, Refuses}
 use Rattle.steps.specs.Steps.{intervals_step, devices_step, lengths_step, fuels_step}
 use Rattle.steps.proofs.Verdicts.{zero_is_one}
@@ -83,5 +83,5 @@ module _ (c : Call) (side : Side) (device interval : ℕ) where
       last (Refuses.later a (Refuses.later b x)) = elim x [ ]
 
   -- 22 is `refusal_of Inlet`, 23 `refusal_of Exhaust` and 21 `refusal_of Status`
-  pub reading_told : judged c ≡ Refused (refusal_of side device interval) → ReadingTold c side device interval
+  pub reading_told : judged c ≡ Err (refusal_of side device interval) → ReadingTold c side device interval
   reading_told e = by_readings (judged_refuses c _ e)

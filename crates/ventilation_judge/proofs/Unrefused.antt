@@ -4,19 +4,18 @@ use Prim.Native.Nat.{ℕ, ◌*◌, ◌≤◌, ◌<◌}
 use mathlib.Core.Path.{◌≡◌, sym, subst}
 use native.Mathlib.Omega.{arith}
 use lib.ListN.{length, get_or}
-use Rattle.refusals.specs.declared.Verdict.TheVariants.{Clean}
+use Rattle.std.proofs.Common.{Ok}
 use Rattle.protocol.specs.Ranges.{intervals_most, devices_most}
 use Rattle.columns.specs.Series.{Burnable}
 use Rattle.columns.specs.Streams.{AirLong, AirRight}
-use Rattle.steps.specs.Step.{verdict_of, Clear, AllClear}
+use Rattle.steps.specs.Step.{step_verdict, Clear, AllClear}
 use Rattle.steps.specs.Steps.{intervals_step, devices_step, lengths_step, fuels_step}
-use Rattle.steps.proofs.Verdicts.{clean_clear, Among, clear_of}
+use Rattle.steps.proofs.Verdicts.{step_clear, Among, clear_of}
 use Rattle.steps.proofs.Clear.{within_least, within_most, intervals_clear, devices_clear, lengths_clear, fuels_clear}
 use Rattle.ventilation_readings.specs.Readings.{readings_step}
 use Rattle.ventilation_readings.proofs.Laws.{readings_clear}
 use Rattle.ventilation_judge.specs.Call.{Call}
 use Rattle.ventilation_judge.specs.Order.{lengths_of, steps_of, judged}
-use Rattle.ventilation_judge.specs.Shape.{shape_steps, Shaped}
 use Rattle.ventilation_judge.proofs.Laws.{judged_clear}
 
 -- N and D are within their limits, and every slice that is read is as long as they ask
@@ -64,20 +63,20 @@ module _ (c : Call) (clear : Clear (lengths_step (lengths_of c))) where
   unfolding lengths_of
   outcome_is = same 9 (omega arith)
 
--- where the first steps of the order refuse nothing
-pub shape_sized : (c : Call) → verdict_of (shape_steps c.intervals c.devices (lengths_of c)) ≡ Clean → Sized c
-shape_sized c e =
-    let a = clean_clear (shape_steps c.intervals c.devices (lengths_of c)) e in
-    sized c (clear_of a (Among.under (Among.under Among.top))) (clear_of a Among.top) (clear_of a (Among.under Among.top))
+-- where the first steps of the order refuse nothing, the others can look at what is lent
+module _ (c : Call) (n : Ok tt ≡ step_verdict (intervals_step c.intervals)) (d : Ok tt ≡ step_verdict (devices_step c.devices)) where
+  pub in_limits : (c.intervals ≤ intervals_most) × (c.devices ≤ devices_most)
+  in_limits = (within_most _ _ (intervals_clear _ (step_clear n)), within_most _ _ (devices_clear _ (step_clear d)))
 
--- what the values' steps rely on
-pub sized_shaped : (c : Call) → Sized c → Shaped c.intervals c.air c.fuel
-sized_shaped c x =
-    record {
-      some = x.intervals_least;
-      long = subst (AirLong c.air) (sym x.long.status) x.long;
-      same_length = x.factor_long;
-    }
+  module _ (l : Ok tt ≡ step_verdict (lengths_step (lengths_of c))) where
+    shape : Sized c
+    shape = sized c (step_clear l) (step_clear n) (step_clear d)
+
+    pub air_long : (0 < c.intervals) × AirLong c.air (length c.air.status)
+    air_long = let x = shape in (x.intervals_least, subst (AirLong c.air) (sym x.long.status) x.long)
+
+    pub factors_long : length c.fuel.factor ≡ length c.fuel.quantity
+    factors_long = shape.factor_long
 
 -- ---- a call that is not refused
 
@@ -96,5 +95,5 @@ all_clear c a =
       burnable = fuels_clear c.fuel fuels shape.factor_long;
     }
 
-pub unrefused : (c : Call) → judged c ≡ Clean → Unrefused c
+pub unrefused : (c : Call) → judged c ≡ Ok tt → Unrefused c
 unrefused c e = all_clear c (judged_clear c e)

@@ -1,4 +1,3 @@
 pub mod Call
 pub mod Order
-pub mod Shape
 pub mod Examples

@@ -1,4 +1,4 @@
-// Corrected volume and methane litres, each rounded down, or each rounded up. Callers cite `methane_litres` and `methane_litres_up` only.
+// Corrected volume and methane litres, each rounded down, or each rounded up. Callers use `litres` and `litres_up` of a `Gas` only.
 #![tactic(auto)]
 
 ghost use Rattle.std.specs.Prelude.{◌+◌, ◌≤◌, ◌≡◌};
@@ -27,14 +27,13 @@ const UNDER: u32 = (Protocol::PASCAL / 25) as u32;
 // Hundredths of a litre times 0.01 %, or litres times ppm, in a litre of methane.
 const METHANE_UNDER: u64 = 1000000;
 
-// Hundredths of a litre at standard conditions. Ruled out: the result rounded up; reference pressure and temperature
-// exchanged.
-pub fn hundredths(flow: u16, temp: i16, press: u32) -> u64
-    requires { Inside flow temp press }
-    ensures { (result ≡ hundredths_of flow temp press) × (result ≤ parts_most) }
-{
-    let kelvin = protocol::kelvin(temp);
-    (flow as u64) * OVER * (press as u64) / ((kelvin * UNDER) as u64)
+// The gas of an interval: the values that are used for it.
+#[derive(Clone, Copy)]
+pub struct Gas {
+    pub flow: u16,
+    pub content: u16,
+    pub temp: i16,
+    pub press: u32,
 }
 
 // Litres of methane in so many hundredths of a litre of gas, or in so many litres of ventilation air. Ruled out: rounded up or to the
@@ -46,31 +45,41 @@ pub fn methane_litres_in(parts: u64, content: u16) -> u64
     parts * (content as u64) / METHANE_UNDER
 }
 
-// The methane litres of an interval, from the values used for it. Ruled out: one rounding at the end in place of two;
-// whole litres of gas first; a result without the content.
-pub fn methane_litres(flow: u16, content: u16, temp: i16, press: u32) -> u64
-    requires { Inside flow temp press × (content ≤ ppm_most) }
-    ensures { (result ≡ methane_litres flow content temp press) × (result ≤ air_most) }
-{
-    let gas = hundredths(flow, temp, press);
-    methane_litres_in(gas, content)
-}
+impl Gas {
+    // Hundredths of a litre at standard conditions. Ruled out: the result rounded up; reference pressure and temperature
+    // exchanged.
+    pub fn hundredths(self) -> u64
+        requires { Inside self.flow self.temp self.press }
+        ensures { (result ≡ hundredths_of self.flow self.temp self.press) × (result ≤ parts_most) }
+    {
+        let kelvin = protocol::kelvin(self.temp);
+        (self.flow as u64) * OVER * (self.press as u64) / ((kelvin * UNDER) as u64)
+    }
 
-// The volume rounded up. Ruled out: rounded down; one more where it divides without a rest.
-fn parts_up(flow: u16, temp: i16, press: u32) -> u64
-    requires { Inside flow temp press }
-    ensures { (result ≡ correction_up parts_factor flow temp press) × (result ≤ parts_most + 1) }
-{
-    let under = (protocol::kelvin(temp) * UNDER) as u64;
-    ((flow as u64) * OVER * (press as u64) + (under - 1)) / under
-}
+    // The methane litres of an interval. Ruled out: one rounding at the end in place of two; whole litres of gas first; a
+    // result without the content.
+    pub fn litres(self) -> u64
+        requires { Inside self.flow self.temp self.press × (self.content ≤ ppm_most) }
+        ensures { (result ≡ methane_litres self.flow self.content self.temp self.press) × (result ≤ air_most) }
+    {
+        methane_litres_in(self.hundredths(), self.content)
+    }
 
-// The methane litres of an interval, both roundings up. Ruled out: the methane of a volume that was rounded down; methane
-// rounded down.
-pub fn methane_litres_up(flow: u16, content: u16, temp: i16, press: u32) -> u64
-    requires { Inside flow temp press × (content ≤ ppm_most) }
-    ensures { (result ≡ methane_litres_up flow content temp press) × (result ≤ air_most + 1) }
-{
-    let gas = parts_up(flow, temp, press);
-    (gas * (content as u64) + (METHANE_UNDER - 1)) / METHANE_UNDER
+    // The volume rounded up. Ruled out: rounded down; one more where it divides without a rest.
+    fn parts_up(self) -> u64
+        requires { Inside self.flow self.temp self.press }
+        ensures { (result ≡ correction_up parts_factor self.flow self.temp self.press) × (result ≤ parts_most + 1) }
+    {
+        let under = (protocol::kelvin(self.temp) * UNDER) as u64;
+        ((self.flow as u64) * OVER * (self.press as u64) + (under - 1)) / under
+    }
+
+    // The methane litres of an interval, both roundings up. Ruled out: the methane of a volume that was rounded down; methane
+    // rounded down.
+    pub fn litres_up(self) -> u64
+        requires { Inside self.flow self.temp self.press × (self.content ≤ ppm_most) }
+        ensures { (result ≡ methane_litres_up self.flow self.content self.temp self.press) × (result ≤ air_most + 1) }
+    {
+        (self.parts_up() * (self.content as u64) + (METHANE_UNDER - 1)) / METHANE_UNDER
+    }
 }

@@ -1,8 +1,5 @@
 -- A series' row is corrected for drift, and then its gaps are filled.
-use mathlib.Core.Path.{sym, ap, ◌∙◌, subst}
-use Prim.Native.Nat.{ℕ}
-use mathlib.Core.List.{List}
-use lib.ListN.{length}
+use Rattle.std.proofs.Common.{ℕ, List, length, sym, ap, ◌∙◌, subst}
 use Rattle.rows.specs.Rows.{build}
 use Rattle.protocol.specs.Ranges.{flow_most}
 use Rattle.drainage_gaps.specs.Private.{filled_at, Goes}

@@ -1,51 +1,27 @@
 -- `drift::correct` meets its contract. The loop's invariant is `Walked` of proofs/Walk.antt.
 -- Assumes nothing.
 use borrow.Author.Rules.{rules}
-use native.Mathlib.Nat.{le_refl}
-use native.Mathlib.Omega.{arith}
-use lib.ListN.{get_or}
-use Rattle.drainage_drift.proofs.Walk.{walked_none, walked_passed, walked_failed, walked_all, read_passes, read_greater}
+use Prim.Native.Nat.{◌<◌, ◌^◌}
 use lib.IntN.{pos}
+use lib.ListN.{get_or}
+use lib.Signed.{mag}
+use Rattle.drainage_drift.proofs.Walk.{walked_passed, walked_failed, walked_all, read_passes, read_greater}
 use Rattle.drainage_drift.proofs.correct.Goals as goal
-
-pub loop-j-init : goal.loop-j-init
-loop-j-init c = walked_none _ _ _ c.requires.0 c.requires.1
-
-pub overflow_cast-end : goal.overflow_cast-end
-overflow_cast-end c = let h = c.shared_slice_known-then-passed-1.given c.loop-j.j in search rules
-
-pub stretch-requires : goal.stretch-requires
-stretch-requires c = (
-  c.loop-j.invariant.ahead c.loop-j.j (le_refl _) c.loop-j-test.true,
-  c.loop-j.invariant.ordered.inside c.loop-j.j c.loop-j-test.true,
-  c.loop-j.invariant.same_length,
-  omega (arith, c.loop-j.invariant.greatest),
-)
-
-pub loop-j-preserved-then-passed : goal.loop-j-preserved-then-passed
-loop-j-preserved-then-passed c =
-    walked_passed _ _ _ _ _ c.loop-j.j _ _ c.loop-j.invariant c.loop-j-test.true
-    (read_passes (get_or c.args.drifts.now c.loop-j.j (pos 0)) c.drift-1.given _ _
-    c.passed.ensures c.if-passed.true)
-    c.stretch.ensures
+use Rattle.drainage_drift.proofs.correct.Goals.{then-passed, else-passed}
 
 pub loop-j-preserved : goal.loop-j-preserved
 loop-j-preserved c =
-    walked_failed _ _ _ _ c.loop-j.j _ _ c.loop-j.invariant _ c.loop-j-test.true
-    (read_passes (get_or c.args.drifts.now c.loop-j.j (pos 0)) c.drift-1.given _ _
-    c.passed.ensures c.if-passed.false)
-    (read_greater (get_or c.args.drifts.now c.loop-j.j (pos 0)) c.drift-1.given
-    c.loop-j.divisor _ _ c.raise.ensures c.greater-divisor.ensures)
-
-pub stretch-requires-2 : goal.stretch-requires-2
-stretch-requires-2 c = (
-  c.loop-j.invariant.inside,
-  le_refl _,
-  c.loop-j.invariant.same_length,
-  omega (arith, c.loop-j.invariant.greatest),
-)
+    let drift = get_or c.args.instrument.now.drifts.now c.loop-j.j (pos 0) in
+    let fits : mag drift < 2 ^ 31 = search rules in
+    elim c.if-passed.branch [
+      | then-passed w ↦
+          rw (w.used-is, w.start-is, w.divisor-is) (walked_passed _ _ _ _ _ c.loop-j.j _ _ c.loop-j.invariant c.loop-j-test.true
+          (read_passes drift fits _ _ c.passed.ensures w.if-passed.true) w.stretch.ensures)
+      | else-passed w ↦
+          rw (w.used-is, w.start-is, w.divisor-is) (walked_failed _ _ _ _ c.loop-j.j _ _ c.loop-j.invariant _ c.loop-j-test.true
+          (read_passes drift fits _ _ c.passed.ensures w.if-passed.false)
+          (read_greater drift fits c.loop-j.divisor _ _ w.raise.ensures w.max-divisor.ensures))
+    ]
 
 pub returns : goal.returns
-returns c =
-    walked_all _ _ _ _ _ c.loop-j.j _ _ c.loop-j.invariant c.loop-j-test.false
-    c.stretch-2.ensures
+returns c = walked_all _ _ _ _ _ c.loop-j.j _ _ c.loop-j.invariant c.loop-j-test.false c.stretch-2.ensures

@@ -8,8 +8,5 @@ use Rattle.drainage_drift.specs.Drift.{kept_or}
 use Rattle.drainage_drift.proofs.stretch.Given as goal
 
 abbrev pub invariant-loop-i : goal.invariant-loop-i
-invariant-loop-i l = (l.start ≤ l.i) × (l.i ≤ l.end) × (l.end ≤ length l.reading) × (length l.initial.used ≡ length l.reading) × (length l.used ≡ length l.reading)
+invariant-loop-i l = (l.end ≤ length l.reading) × (length l.used ≡ length l.reading)
     × (10000 ≤ l.divisor) × Continued l.start l.i (kept_or (l.divisor - 10000) l.reading) l.initial.used l.used
-
-abbrev pub decreases-loop-i : goal.decreases-loop-i
-decreases-loop-i l = l.end - l.i

@@ -1,12 +1,9 @@
 -- Whether every entry of a block is measured.
-use Prim.Native.Nat.{◌+◌, ◌-◌, ◌≤◌}
+use Prim.Native.Nat.{◌+◌}
 use mathlib.Core.Path.{◌≡◌}
 use Rattle.rows.specs.Rows.{every}
 use Rattle.drainage_runs.specs.Runs.{measured_at}
 use Rattle.drainage_runs.proofs.measured.Given as goal
 
 abbrev pub invariant-loop-k : goal.invariant-loop-k
-invariant-loop-k l = (l.k ≤ 16) × (l.all ≡ every l.k (λ j. measured_at l.reading (l.i + j)))
-
-abbrev pub decreases-loop-k : goal.decreases-loop-k
-decreases-loop-k l = 16 - l.k
+invariant-loop-k l = l.all ≡ every l.k (λ j. measured_at l.reading (l.i + j))

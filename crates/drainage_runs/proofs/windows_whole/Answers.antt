@@ -16,46 +16,29 @@ returns-then-reading-e c =
 
 pub look-init : goal.look-init
 look-init c =
-    let g = c.args in (
-      refl,
-      omega arith,
-      looked_none g.reading.now g.a g.e g.w c.requires.1 (omega (arith, c.if-a-w.false))
-          (omega (arith, c.if-reading-e.false)),
-    )
+    let g = c.args in
+    (refl, looked_none g.reading.now g.a g.e g.w c.requires.1 (omega (arith, c.if-a-w.false)) (omega (arith, c.if-reading-e.false)))
 
 pub loop-k-init : goal.loop-k-init
-loop-k-init c = (c.look.invariant.0, omega arith, measured_none _ _)
-
-pub overflow_add-from : goal.overflow_add-from
-overflow_add-from c = record { fits = omega (arith, looked_room c.look.invariant.2) }
-
-pub offset_bounds-reading-from : goal.offset_bounds-reading-from
-offset_bounds-reading-from c = record { fits = omega (arith, looked_room c.look.invariant.2) }
-
-pub bounds-reading-from : goal.bounds-reading-from
-bounds-reading-from c = omega (arith, looked_room c.look.invariant.2)
+loop-k-init c = (c.look.invariant.0, measured_none _ _)
 
 pub loop-k-preserved : goal.loop-k-preserved
 loop-k-preserved c =
-    let v = c.loop-k.invariant in (
-      v.0,
-      omega arith,
-      measured_more _ _ _ v.2 (ap not (measured_is c.args.reading.now _ (omega (arith, c.loop-k-test.true, looked_room c.look.invariant.2)) c.if-reading-from.false)),
-    )
+    let v = c.loop-k.invariant in
+    let room = looked_room c.look.invariant.1 c.look-test.true in
+    (v.0, measured_more _ _ _ v.1 (ap not (measured_is c.args.reading.now _ (omega (arith, room)) c.if-reading-from.false)))
 
 pub look-preserved : goal.look-preserved
 look-preserved c =
     let v = c.loop-k.invariant in
-    let q : c.loop-k.k ≡ c.args.w = omega (arith, v.1, c.loop-k-test.false) in (
-      v.0,
-      omega arith,
-      looked_side c.look.invariant.2 (subst (Measured c.args.reading.now c.look.from) q v.2),
-    )
+    let q : c.loop-k.k ≡ c.args.w = omega arith in
+    (v.0, looked_side c.look.invariant.1 (subst (Measured c.args.reading.now _) q v.1))
 
 pub returns-after-look : goal.returns-after-look
-returns-after-look c = c.look.invariant.0 ∙ sym (looked_all c.look.invariant.2 (omega (arith, c.look-test.false)))
+returns-after-look c = c.look.invariant.0 ∙ sym (looked_all c.look.invariant.1 c.look-test.false)
 
 pub returns-then-reading-from : goal.returns-then-reading-from
 returns-then-reading-from c =
-    looked_fails c.look.invariant.2 _ (omega (arith, c.look-test.true)) c.loop-k-test.true
-    (ap not (missing_is c.args.reading.now _ (omega (arith, c.loop-k-test.true, looked_room c.look.invariant.2)) c.if-reading-from.true))
+    let room = looked_room c.look.invariant.1 c.look-test.true in
+    looked_fails c.look.invariant.1 _ c.look-test.true c.loop-k-test.true
+    (ap not (missing_is c.args.reading.now _ (omega (arith, room)) c.if-reading-from.true))

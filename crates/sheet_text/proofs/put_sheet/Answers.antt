@@ -42,9 +42,9 @@ put_line-p12-requires c =
     let f11 = put_step c.args.f r 10 (omega arith) f10 c.put_line-p11.ensures in
     put_room c.args.f r 11 (omega arith) f11
 
-pub put_signed_line-p13-requires : goal.put_signed_line-p13-requires
+pub put_line-p13-requires : goal.put_line-p13-requires
 unfolding schema values_of
-put_signed_line-p13-requires c =
+put_line-p13-requires c =
     let r = in_range c.args.f (omega arith) in
     let f8 = c.put_head-p8.ensures in
     let f9 = put_step c.args.f r 8 (omega arith) f8 c.put_line-p9.ensures in
@@ -53,16 +53,16 @@ put_signed_line-p13-requires c =
     let f12 = put_step c.args.f r 11 (omega arith) f11 c.put_line-p12.ensures in
     put_signed_room c.args.f r 12 (omega arith) f12 refl
 
-pub put_signed_line-p14-requires : goal.put_signed_line-p14-requires
+pub put_line-p14-requires : goal.put_line-p14-requires
 unfolding schema values_of
-put_signed_line-p14-requires c =
+put_line-p14-requires c =
     let r = in_range c.args.f (omega arith) in
     let f8 = c.put_head-p8.ensures in
     let f9 = put_step c.args.f r 8 (omega arith) f8 c.put_line-p9.ensures in
     let f10 = put_step c.args.f r 9 (omega arith) f9 c.put_line-p10.ensures in
     let f11 = put_step c.args.f r 10 (omega arith) f10 c.put_line-p11.ensures in
     let f12 = put_step c.args.f r 11 (omega arith) f11 c.put_line-p12.ensures in
-    let f13 = put_signed_step c.args.f r 12 (omega arith) f12 refl c.put_signed_line-p13.ensures in
+    let f13 = put_signed_step c.args.f r 12 (omega arith) f12 refl c.put_line-p13.ensures in
     put_signed_room c.args.f r 13 (omega arith) f13 refl
 
 pub put_line-requires : goal.put_line-requires
@@ -74,8 +74,8 @@ put_line-requires c =
     let f10 = put_step c.args.f r 9 (omega arith) f9 c.put_line-p10.ensures in
     let f11 = put_step c.args.f r 10 (omega arith) f10 c.put_line-p11.ensures in
     let f12 = put_step c.args.f r 11 (omega arith) f11 c.put_line-p12.ensures in
-    let f13 = put_signed_step c.args.f r 12 (omega arith) f12 refl c.put_signed_line-p13.ensures in
-    let f14 = put_signed_step c.args.f r 13 (omega arith) f13 refl c.put_signed_line-p14.ensures in
+    let f13 = put_signed_step c.args.f r 12 (omega arith) f12 refl c.put_line-p13.ensures in
+    let f14 = put_signed_step c.args.f r 13 (omega arith) f13 refl c.put_line-p14.ensures in
     put_room c.args.f r 14 (omega arith) f14
 
 pub returns : goal.returns
@@ -87,7 +87,7 @@ returns c =
     let f10 = put_step c.args.f r 9 (omega arith) f9 c.put_line-p10.ensures in
     let f11 = put_step c.args.f r 10 (omega arith) f10 c.put_line-p11.ensures in
     let f12 = put_step c.args.f r 11 (omega arith) f11 c.put_line-p12.ensures in
-    let f13 = put_signed_step c.args.f r 12 (omega arith) f12 refl c.put_signed_line-p13.ensures in
-    let f14 = put_signed_step c.args.f r 13 (omega arith) f13 refl c.put_signed_line-p14.ensures in
+    let f13 = put_signed_step c.args.f r 12 (omega arith) f12 refl c.put_line-p13.ensures in
+    let f14 = put_signed_step c.args.f r 13 (omega arith) f13 refl c.put_line-p14.ensures in
     let f15 = put_step c.args.f r 14 (omega arith) f14 c.put_line.ensures in
     (put_all c.args.f f15, sheet_longest c.args.f r)

@@ -3,95 +3,94 @@ use native.Mathlib.Omega.{arith}
 use Rattle.sheet_text.specs.Sheet.{schema}
 use Rattle.sheet_text.specs.Head.{volumes_of}
 use Rattle.text.proofs.Tables.{lines_none}
-use Rattle.sheet_text.proofs.Steps.{natural_step, natural_refused}
+use Rattle.sheet_text.proofs.Steps.{line_step, line_refused, given_on}
 use Rattle.sheet_text.proofs.read_head.Goals as goal
 
-pub returns-in_default : goal.returns-in_default
+pub returns-in_err-intervals : goal.returns-in_err-intervals
 unfolding schema
-returns-in_default c =
+returns-in_err-intervals c =
     let f0 = lines_none c.args.t.now 0 (omega arith) in
-    natural_refused 0 (omega arith) f0 c.in_default.is c.wrong_at.ensures c.read_line-a1.ensures
+    given_on _ c.from_residual.result c.from_residual.ensures.1 (line_refused 0 (omega arith) f0 c.in_err-intervals.ensures)
 
-pub returns-in_default-a2 : goal.returns-in_default-a2
+pub returns-in_err-devices : goal.returns-in_err-devices
 unfolding schema
-returns-in_default-a2 c =
+returns-in_err-devices c =
     let f0 = lines_none c.args.t.now 0 (omega arith) in
-    let f1 = natural_step 0 (omega arith) f0 c.in-Value.is c.read_line-a1.ensures in
-    natural_refused 1 (omega arith) f1 c.in_default-a2.is c.wrong_at-in_default-a2.ensures c.read_line-a2.ensures
+    let f1 = line_step 0 (omega arith) f0 c.in_ok-intervals.ensures in
+    given_on _ c.from_residual-in_err-devices.result c.from_residual-in_err-devices.ensures.1 (line_refused 1 (omega arith) f1 c.in_err-devices.ensures)
 
-pub returns-in_default-a3 : goal.returns-in_default-a3
+pub returns-in_err-counted : goal.returns-in_err-counted
 unfolding schema
-returns-in_default-a3 c =
+returns-in_err-counted c =
     let f0 = lines_none c.args.t.now 0 (omega arith) in
-    let f1 = natural_step 0 (omega arith) f0 c.in-Value.is c.read_line-a1.ensures in
-    let f2 = natural_step 1 (omega arith) f1 c.in-Value-a2.is c.read_line-a2.ensures in
-    natural_refused 2 (omega arith) f2 c.in_default-a3.is c.wrong_at-in_default-a3.ensures c.read_line-a3.ensures
+    let f1 = line_step 0 (omega arith) f0 c.in_ok-intervals.ensures in
+    let f2 = line_step 1 (omega arith) f1 c.in_ok-devices.ensures in
+    given_on _ c.from_residual-in_err-counted.result c.from_residual-in_err-counted.ensures.1 (line_refused 2 (omega arith) f2 c.in_err-counted.ensures)
 
-pub returns-in_default-a4 : goal.returns-in_default-a4
+pub returns-in_err-replaced : goal.returns-in_err-replaced
 unfolding schema
-returns-in_default-a4 c =
+returns-in_err-replaced c =
     let f0 = lines_none c.args.t.now 0 (omega arith) in
-    let f1 = natural_step 0 (omega arith) f0 c.in-Value.is c.read_line-a1.ensures in
-    let f2 = natural_step 1 (omega arith) f1 c.in-Value-a2.is c.read_line-a2.ensures in
-    let f3 = natural_step 2 (omega arith) f2 c.in-Value-a3.is c.read_line-a3.ensures in
-    natural_refused 3 (omega arith) f3 c.in_default-a4.is c.wrong_at-in_default-a4.ensures c.read_line-a4.ensures
+    let f1 = line_step 0 (omega arith) f0 c.in_ok-intervals.ensures in
+    let f2 = line_step 1 (omega arith) f1 c.in_ok-devices.ensures in
+    let f3 = line_step 2 (omega arith) f2 c.in_ok-counted.ensures in
+    given_on _ c.from_residual-in_err-replaced.result c.from_residual-in_err-replaced.ensures.1 (line_refused 3 (omega arith) f3 c.in_err-replaced.ensures)
 
-pub returns-in_default-a5 : goal.returns-in_default-a5
+pub returns-in_err-excluded : goal.returns-in_err-excluded
 unfolding schema
-returns-in_default-a5 c =
+returns-in_err-excluded c =
     let f0 = lines_none c.args.t.now 0 (omega arith) in
-    let f1 = natural_step 0 (omega arith) f0 c.in-Value.is c.read_line-a1.ensures in
-    let f2 = natural_step 1 (omega arith) f1 c.in-Value-a2.is c.read_line-a2.ensures in
-    let f3 = natural_step 2 (omega arith) f2 c.in-Value-a3.is c.read_line-a3.ensures in
-    let f4 = natural_step 3 (omega arith) f3 c.in-Value-a4.is c.read_line-a4.ensures in
-    natural_refused 4 (omega arith) f4 c.in_default-a5.is c.wrong_at-in_default-a5.ensures c.read_line-a5.ensures
+    let f1 = line_step 0 (omega arith) f0 c.in_ok-intervals.ensures in
+    let f2 = line_step 1 (omega arith) f1 c.in_ok-devices.ensures in
+    let f3 = line_step 2 (omega arith) f2 c.in_ok-counted.ensures in
+    let f4 = line_step 3 (omega arith) f3 c.in_ok-replaced.ensures in
+    given_on _ c.from_residual-in_err-excluded.result c.from_residual-in_err-excluded.ensures.1 (line_refused 4 (omega arith) f4 c.in_err-excluded.ensures)
 
-pub returns-in_default-a6 : goal.returns-in_default-a6
+pub returns-in_err-methane_l : goal.returns-in_err-methane_l
 unfolding schema
-returns-in_default-a6 c =
+returns-in_err-methane_l c =
     let f0 = lines_none c.args.t.now 0 (omega arith) in
-    let f1 = natural_step 0 (omega arith) f0 c.in-Value.is c.read_line-a1.ensures in
-    let f2 = natural_step 1 (omega arith) f1 c.in-Value-a2.is c.read_line-a2.ensures in
-    let f3 = natural_step 2 (omega arith) f2 c.in-Value-a3.is c.read_line-a3.ensures in
-    let f4 = natural_step 3 (omega arith) f3 c.in-Value-a4.is c.read_line-a4.ensures in
-    let f5 = natural_step 4 (omega arith) f4 c.in-Value-a5.is c.read_line-a5.ensures in
-    natural_refused 5 (omega arith) f5 c.in_default-a6.is c.wrong_at-in_default-a6.ensures c.read_line-a6.ensures
+    let f1 = line_step 0 (omega arith) f0 c.in_ok-intervals.ensures in
+    let f2 = line_step 1 (omega arith) f1 c.in_ok-devices.ensures in
+    let f3 = line_step 2 (omega arith) f2 c.in_ok-counted.ensures in
+    let f4 = line_step 3 (omega arith) f3 c.in_ok-replaced.ensures in
+    let f5 = line_step 4 (omega arith) f4 c.in_ok-excluded.ensures in
+    given_on _ c.from_residual-in_err-methane_l.result c.from_residual-in_err-methane_l.ensures.1 (line_refused 5 (omega arith) f5 c.in_err-methane_l.ensures)
 
-pub returns-in_default-a7 : goal.returns-in_default-a7
+pub returns-in_err-destroyed_l : goal.returns-in_err-destroyed_l
 unfolding schema
-returns-in_default-a7 c =
+returns-in_err-destroyed_l c =
     let f0 = lines_none c.args.t.now 0 (omega arith) in
-    let f1 = natural_step 0 (omega arith) f0 c.in-Value.is c.read_line-a1.ensures in
-    let f2 = natural_step 1 (omega arith) f1 c.in-Value-a2.is c.read_line-a2.ensures in
-    let f3 = natural_step 2 (omega arith) f2 c.in-Value-a3.is c.read_line-a3.ensures in
-    let f4 = natural_step 3 (omega arith) f3 c.in-Value-a4.is c.read_line-a4.ensures in
-    let f5 = natural_step 4 (omega arith) f4 c.in-Value-a5.is c.read_line-a5.ensures in
-    let f6 = natural_step 5 (omega arith) f5 c.in-Value-a6.is c.read_line-a6.ensures in
-    natural_refused 6 (omega arith) f6 c.in_default-a7.is c.wrong_at-in_default-a7.ensures c.read_line-a7.ensures
+    let f1 = line_step 0 (omega arith) f0 c.in_ok-intervals.ensures in
+    let f2 = line_step 1 (omega arith) f1 c.in_ok-devices.ensures in
+    let f3 = line_step 2 (omega arith) f2 c.in_ok-counted.ensures in
+    let f4 = line_step 3 (omega arith) f3 c.in_ok-replaced.ensures in
+    let f5 = line_step 4 (omega arith) f4 c.in_ok-excluded.ensures in
+    let f6 = line_step 5 (omega arith) f5 c.in_ok-methane_l.ensures in
+    given_on _ c.from_residual-in_err-destroyed_l.result c.from_residual-in_err-destroyed_l.ensures.1 (line_refused 6 (omega arith) f6 c.in_err-destroyed_l.ensures)
 
-pub returns-in_default-a8 : goal.returns-in_default-a8
+pub returns-in_err-uncombusted_l : goal.returns-in_err-uncombusted_l
 unfolding schema
-returns-in_default-a8 c =
+returns-in_err-uncombusted_l c =
     let f0 = lines_none c.args.t.now 0 (omega arith) in
-    let f1 = natural_step 0 (omega arith) f0 c.in-Value.is c.read_line-a1.ensures in
-    let f2 = natural_step 1 (omega arith) f1 c.in-Value-a2.is c.read_line-a2.ensures in
-    let f3 = natural_step 2 (omega arith) f2 c.in-Value-a3.is c.read_line-a3.ensures in
-    let f4 = natural_step 3 (omega arith) f3 c.in-Value-a4.is c.read_line-a4.ensures in
-    let f5 = natural_step 4 (omega arith) f4 c.in-Value-a5.is c.read_line-a5.ensures in
-    let f6 = natural_step 5 (omega arith) f5 c.in-Value-a6.is c.read_line-a6.ensures in
-    let f7 = natural_step 6 (omega arith) f6 c.in-Value-a7.is c.read_line-a7.ensures in
-    natural_refused 7 (omega arith) f7 c.in_default-a8.is c.wrong_at-in_default-a8.ensures c.read_line-a8.ensures
+    let f1 = line_step 0 (omega arith) f0 c.in_ok-intervals.ensures in
+    let f2 = line_step 1 (omega arith) f1 c.in_ok-devices.ensures in
+    let f3 = line_step 2 (omega arith) f2 c.in_ok-counted.ensures in
+    let f4 = line_step 3 (omega arith) f3 c.in_ok-replaced.ensures in
+    let f5 = line_step 4 (omega arith) f4 c.in_ok-excluded.ensures in
+    let f6 = line_step 5 (omega arith) f5 c.in_ok-methane_l.ensures in
+    let f7 = line_step 6 (omega arith) f6 c.in_ok-destroyed_l.ensures in
+    given_on _ c.from_residual-in_err-uncombusted_l.result c.from_residual-in_err-uncombusted_l.ensures.1 (line_refused 7 (omega arith) f7 c.in_err-uncombusted_l.ensures)
 
 pub returns : goal.returns
 unfolding schema volumes_of
 returns c =
     let f0 = lines_none c.args.t.now 0 (omega arith) in
-    let f1 = natural_step 0 (omega arith) f0 c.in-Value.is c.read_line-a1.ensures in
-    let f2 = natural_step 1 (omega arith) f1 c.in-Value-a2.is c.read_line-a2.ensures in
-    let f3 = natural_step 2 (omega arith) f2 c.in-Value-a3.is c.read_line-a3.ensures in
-    let f4 = natural_step 3 (omega arith) f3 c.in-Value-a4.is c.read_line-a4.ensures in
-    let f5 = natural_step 4 (omega arith) f4 c.in-Value-a5.is c.read_line-a5.ensures in
-    let f6 = natural_step 5 (omega arith) f5 c.in-Value-a6.is c.read_line-a6.ensures in
-    let f7 = natural_step 6 (omega arith) f6 c.in-Value-a7.is c.read_line-a7.ensures in
-    let f8 = natural_step 7 (omega arith) f7 c.in-Value-a8.is c.read_line-a8.ensures in
-    f8
+    let f1 = line_step 0 (omega arith) f0 c.in_ok-intervals.ensures in
+    let f2 = line_step 1 (omega arith) f1 c.in_ok-devices.ensures in
+    let f3 = line_step 2 (omega arith) f2 c.in_ok-counted.ensures in
+    let f4 = line_step 3 (omega arith) f3 c.in_ok-replaced.ensures in
+    let f5 = line_step 4 (omega arith) f4 c.in_ok-excluded.ensures in
+    let f6 = line_step 5 (omega arith) f5 c.in_ok-methane_l.ensures in
+    let f7 = line_step 6 (omega arith) f6 c.in_ok-destroyed_l.ensures in
+    line_step 7 (omega arith) f7 c.in_ok-uncombusted_l.ensures

@@ -22,6 +22,6 @@ pub returns : goal.returns
 returns c =
     let n = c.put_sheet-n in
     write_answered _ _ _ _
-    (put_done c.args.f c.args.buf.now (n.new.buf ++ c.args.buf.now) c.put_sheet-m.new.buf n.result c.put_sheet-m.result
+    (put_done c.args.f c.args.buf.now (n.new.buf ++ c.args.buf.now) c.put_sheet.new.buf n.result c.put_sheet.result
     (ap (λ (x : List ℕ). x ++ c.args.buf.now) (nothing n.new.buf (text_of c.args.f) n.ensures.0.is)) n.ensures.0.stops
-    (omega (arith, c.if-buf-n.false)) c.put_sheet-m.ensures.0)
+    (omega (arith, c.if-buf-n.false)) c.put_sheet.ensures.0)

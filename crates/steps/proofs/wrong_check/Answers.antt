@@ -1,31 +1,27 @@
 -- A check's three tests, in the order of the definition.
-use mir.Syntax.{w32}
-use Rattle.protocol.proofs.SignedLaws.{read_test}
+use Rattle.std.proofs.Common.{sym, ◌∙◌, ◌≡◌, true, false, pos, get_or, rules, arith, le-ltb, ◌+◌, ◌*◌}
+use Rattle.protocol.specs.Ranges.{drift_right, checks_most}
 use Rattle.steps.proofs.Tests.{check_far, check_drift, check_first, check_next}
-use Prim.Native.Nat.{◌+◌, ◌*◌}
-use mathlib.Core.Path.{sym, ◌∙◌}
-use lib.IntN.{pos}
-use lib.ListN.{get_or}
-use Rattle.protocol.specs.Ranges.{checks_most, drift_right}
 use Rattle.steps.proofs.wrong_check.Goals as goal
+use Rattle.steps.proofs.wrong_check.Goals.{then-intervals-position-via-then-intervals-position, then-intervals-position-via-else-intervals-position+then-not-drift_right}
 
 pub returns-then-intervals-position : goal.returns-then-intervals-position
-returns-then-intervals-position c = sym (check_far _ _ _ _ _ c.if-intervals-position.true)
+returns-then-intervals-position c =
+    elim c.then-intervals-position.branch [
+      | then-intervals-position-via-then-intervals-position w ↦ sym (check_far _ _ _ _ _ w.if-intervals-position.true)
+      | then-intervals-position-via-else-intervals-position+then-not-drift_right w ↦
+          let e : drift_right (get_or c.args.checks.now.drifts.now (checks_most * c.args.g + c.args.j) (pos 0)) ≡ false = search rules in
+          sym (check_drift _ _ _ _ _ e)
+    ]
 
-pub returns-then-not-drift_right : goal.returns-then-not-drift_right
-returns-then-not-drift_right c =
-    sym (check_drift _ _ _ _ _ (read_test w32 drift_right (get_or c.args.drifts.now
-    (checks_most * c.args.g + c.args.j) (pos 0)) (record { sfits = c.drift_right-arg-1.given }) _
-    c.drift_right.ensures ∙ c.if-not-drift_right.true))
+pub returns-then-j-gt0 : goal.returns-then-j-gt0
+returns-then-j-gt0 c =
+    let e : drift_right (get_or c.args.checks.now.drifts.now (checks_most * c.args.g + c.args.j) (pos 0)) ≡ true = search rules in
+    let h = c.if-j-gt0.true in
+    sym (check_next _ _ _ _ _ c.if-intervals-position.false e (λ z. omega arith))
 
-pub returns-then-j-eq0 : goal.returns-then-j-eq0
-returns-then-j-eq0 c =
-    sym (check_first _ _ _ _ _ c.if-intervals-position.false
-    (read_test w32 drift_right (get_or c.args.drifts.now (checks_most * c.args.g + c.args.j) (pos 0))
-    (record { sfits = c.drift_right-arg-1.given }) _ c.drift_right.ensures ∙ c.if-not-drift_right.false) c.if-j-eq0.true)
-
-pub returns : goal.returns
-returns c =
-    sym (check_next _ _ _ _ _ c.if-intervals-position.false
-    (read_test w32 drift_right (get_or c.args.drifts.now (checks_most * c.args.g + c.args.j) (pos 0))
-    (record { sfits = c.drift_right-arg-1.given }) _ c.drift_right.ensures ∙ c.if-not-drift_right.false) c.if-j-eq0.false)
+pub returns-else-j-gt0 : goal.returns-else-j-gt0
+returns-else-j-gt0 c =
+    let e : drift_right (get_or c.args.checks.now.drifts.now (checks_most * c.args.g + c.args.j) (pos 0)) ≡ true = search rules in
+    let h = c.if-j-gt0.false in
+    le-ltb 0 _ h ∙ sym (check_first _ _ _ _ _ c.if-intervals-position.false e (let z : c.args.j ≡ 0 = omega arith in z))

@@ -1,7 +1,6 @@
 -- `text::read_natural` meets its contract. The invariant: the digits of v, which is in the range and not 0, stand from the start. Assumes nothing.
-use Prim.Native.Nat.{ℕ, ◌-◌, ◌≤◌, ◌<◌}
+use Prim.Native.Nat.{ℕ, ◌≤◌, ◌<◌}
 use mathlib.Core.List.{List}
-use lib.ListN.{length}
 use Rattle.text.specs.Form.{Stands}
 use Rattle.text.specs.Answer.{Asked}
 use Rattle.text.specs.Decimal.{dec}
@@ -16,6 +15,3 @@ pub record Reading (t : List ℕ) (start least most end v i : ℕ) : Type 0 wher
 
 abbrev pub invariant-loop-i : goal.invariant-loop-i
 invariant-loop-i l = Reading l.t l.start l.least l.most l.end l.v l.i
-
-abbrev pub decreases-loop-i : goal.decreases-loop-i
-decreases-loop-i l = length l.t - l.i

@@ -1,84 +1,39 @@
 -- Refused before anything is written; else the row, the accounts and the sheet of the definitions.
-use mathlib.Core.Path.{sym, ◌∙◌}
+use mathlib.Core.Path.{◌≡◌, sym, ◌∙◌, subst}
 use lib.ListN.{length}
-use borrow.Author.Rules.{rules}
-use Rattle.columns.specs.Series.{fuel_of}
-use Rattle.columns.specs.Streams.{air_of, stream_of}
-use Rattle.ventilation_judge.specs.Call.{Call}
+use Rattle.std.proofs.Common.{Ok, Err, rules}
+use Rattle.ventilation_judge.specs.Call.{call_in}
+use Rattle.ventilation_judge.specs.Order.{judged}
 use Rattle.ventilation_judge.proofs.Unrefused.{unrefused}
+use Rattle.ventilation.specs.Promise.{Settled}
 use Rattle.ventilation.proofs.Settling.{sound, settled_refused, settled_made, moderate_call, sheet_is}
 use Rattle.ventilation.proofs.quantify.Goals as goal
+use Rattle.ventilation.proofs.quantify.Goals.{In_ok-judge}
 
-pub returns-in-Refused : goal.returns-in-Refused
-returns-in-Refused c =
-    let k : Call =
-    record {
-      intervals = c.args.intervals;
-      devices = c.args.devices;
-      air =
-          air_of (stream_of c.args.inlet_flow.now c.args.inlet_ppm.now c.args.inlet_temp.now c.args.inlet_press.now)
-          (stream_of c.args.exhaust_flow.now c.args.exhaust_ppm.now c.args.exhaust_temp.now c.args.exhaust_press.now) c.args.status.now;
-      fuel = fuel_of c.args.quantity.now c.args.factor.now;
-      outcome_length = length c.args.outcome.now;
-    } in
-    settled_refused k (record { outcome = c.args.outcome.now; accounts = c.args.accounts.now }) _ (sym c.judge-verdict.ensures.verdict ∙ c.in-Refused.is)
+clean : (c : In_ok-judge) → judged (call_in c.args.call.now (length c.args.outcome.now)) ≡ Ok tt
+clean c = sym c.judge.ensures.verdict ∙ c.in_ok-judge.was
+
+pub returns-in_err-judge : goal.returns-in_err-judge
+returns-in_err-judge c =
+    let k = call_in c.args.call.now (length c.args.outcome.now) in
+    let r = c.in_err-judge.field-0.0 in
+    let e : c.from_residual.result ≡ Err r = search rules in
+    subst (Settled k _ _) (sym e) (settled_refused k _ r (sym c.judge.ensures.verdict ∙ c.in_err-judge.was))
 
 pub fill_rows-t-requires : goal.fill_rows-t-requires
 fill_rows-t-requires c =
-    let k : Call =
-    record {
-      intervals = c.args.intervals;
-      devices = c.args.devices;
-      air =
-          air_of (stream_of c.args.inlet_flow.now c.args.inlet_ppm.now c.args.inlet_temp.now c.args.inlet_press.now)
-          (stream_of c.args.exhaust_flow.now c.args.exhaust_ppm.now c.args.exhaust_temp.now c.args.exhaust_press.now) c.args.status.now;
-      fuel = fuel_of c.args.quantity.now c.args.factor.now;
-      outcome_length = length c.args.outcome.now;
-    } in
-    let x = unrefused k (sym c.judge-verdict.ensures.verdict ∙ c.in_default.is) in
+    let k = call_in c.args.call.now (length c.args.outcome.now) in
+    let x = unrefused k (clean (goal.at.fill_rows-t-requires c).In_ok-judge) in
     (sound k x, x.outcome_long, search rules)
 
 pub fuel-f-requires : goal.fuel-f-requires
-fuel-f-requires c =
-    let k : Call =
-    record {
-      intervals = c.args.intervals;
-      devices = c.args.devices;
-      air =
-          air_of (stream_of c.args.inlet_flow.now c.args.inlet_ppm.now c.args.inlet_temp.now c.args.inlet_press.now)
-          (stream_of c.args.exhaust_flow.now c.args.exhaust_ppm.now c.args.exhaust_temp.now c.args.exhaust_press.now) c.args.status.now;
-      fuel = fuel_of c.args.quantity.now c.args.factor.now;
-      outcome_length = length c.args.outcome.now;
-    } in
-    (unrefused k (sym c.judge-verdict.ensures.verdict ∙ c.in_default.is)).burnable
+fuel-f-requires c = (unrefused _ (clean (goal.at.fuel-f-requires c).In_ok-judge)).burnable
 
 pub sheet-requires : goal.sheet-requires
 sheet-requires c =
-    let k : Call =
-    record {
-      intervals = c.args.intervals;
-      devices = c.args.devices;
-      air =
-          air_of (stream_of c.args.inlet_flow.now c.args.inlet_ppm.now c.args.inlet_temp.now c.args.inlet_press.now)
-          (stream_of c.args.exhaust_flow.now c.args.exhaust_ppm.now c.args.exhaust_temp.now c.args.exhaust_press.now) c.args.status.now;
-      fuel = fuel_of c.args.quantity.now c.args.factor.now;
-      outcome_length = length c.args.outcome.now;
-    } in
-    moderate_call k (unrefused k (sym c.judge-verdict.ensures.verdict ∙ c.in_default.is)) _ _ c.fill_rows-t.ensures.totals c.fuel-f.ensures.1
+    moderate_call _ (unrefused _ (clean (goal.at.sheet-requires c).In_ok-judge)) _ _ c.fill_rows-t.ensures.totals c.fuel-f.ensures.1
 
 pub returns : goal.returns
 returns c =
-    let k : Call =
-    record {
-      intervals = c.args.intervals;
-      devices = c.args.devices;
-      air =
-          air_of (stream_of c.args.inlet_flow.now c.args.inlet_ppm.now c.args.inlet_temp.now c.args.inlet_press.now)
-          (stream_of c.args.exhaust_flow.now c.args.exhaust_ppm.now c.args.exhaust_temp.now c.args.exhaust_press.now) c.args.status.now;
-      fuel = fuel_of c.args.quantity.now c.args.factor.now;
-      outcome_length = length c.args.outcome.now;
-    } in
     let w = c.fill_rows-t.ensures in
-    settled_made k (record { outcome = c.args.outcome.now; accounts = c.args.accounts.now }) _ c.fill_rows-t.result c.sheet.result
-    (sym c.judge-verdict.ensures.verdict ∙ c.in_default.is) w
-    (sheet_is k c.fill_rows-t.result c.fuel-f.result c.sheet.result c.sheet.ensures w.totals c.fuel-f.ensures.0)
+    settled_made _ _ _ _ _ (clean (goal.at.returns c).In_ok-judge) w (sheet_is _ _ _ _ c.sheet.ensures w.totals c.fuel-f.ensures.0)
