@@ -23,3 +23,7 @@ passed_found n p i x e = record { within = x.within; before = x.clean; found = �
 
 pub passed_all : (n : ℕ) (p : ℕ → Bool) (i : ℕ) → Passed n p i → n ≤ i → FirstOf n p i
 passed_all n p i x h = record { within = x.within; before = x.clean; found = λ l. absurd (not-le_of_lt l h) }
+
+-- the same, said of the end itself
+pub passed_through : (n : ℕ) (p : ℕ → Bool) (i : ℕ) → Passed n p i → n ≤ i → FirstOf n p n
+passed_through n p i x h = record { within = omega arith; before = λ k l. x.clean k (omega (arith, l, h)); found = λ l. absurd (not-le_of_lt l (let z : n ≤ n = omega arith in z)) }

@@ -10,12 +10,10 @@ pub fn first_difference(have: &[usize], want: &[usize]) -> usize
     ensures { FirstOf (length have.now)
         (λ k. not (eqb (get_or have.now k 0) (get_or want.now k 0))) result }
 {
-    let mut i = 0;
-    while i < have.len() {
+    for i in 0..have.len() {
         if have[i] != want[i] {
             return i;
         }
-        i += 1;
     }
-    i
+    have.len()
 }

@@ -1,10 +1,7 @@
 -- The scan passes over equal entries only.
-use Rattle.std.proofs.Common.{◌≡◌, ◌-◌, length, not, eqb, get_or}
+use Rattle.std.proofs.Common.{length, not, eqb, get_or}
 use Rattle.rows.proofs.Scan.{Passed}
 use Rattle.rows.proofs.first_difference.Given as goal
 
 abbrev pub invariant-loop-i : goal.invariant-loop-i
-invariant-loop-i l = (length l.have ≡ length l.want) × Passed (length l.have) (λ k. not (eqb (get_or l.have k 0) (get_or l.want k 0))) l.i
-
-abbrev pub decreases-loop-i : goal.decreases-loop-i
-decreases-loop-i l = length l.have - l.i
+invariant-loop-i l = Passed (length l.have) (λ k. not (eqb (get_or l.have k 0) (get_or l.want k 0))) l.i
