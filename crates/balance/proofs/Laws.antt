@@ -12,7 +12,7 @@ use borrow.Author.Rules.{rules}
 use mir.Syntax.{w64}
 use mir.Val.{SFits, Fits, to_z, of_z}
 use mir.Facts.{to_z-of_z, to_z_pos}
-use Rattle.core.specs.Int.{int_max}
+use Rattle.std.specs.Int.{int_max}
 use Rattle.rows.specs.Rows.{sum_to}
 use Rattle.rows.proofs.Sums.{sum_to_ext, sum_to_add}
 use Rattle.protocol.specs.Kinds.{thousandths_of}

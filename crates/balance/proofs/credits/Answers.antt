@@ -3,7 +3,7 @@ use mathlib.Core.Path.{ap, ◌∙◌}
 use lib.IntN.{ℤ, pos, nat_abs}
 use mir.Syntax.{w64}
 use mir.Facts.{to_z-of_z}
-use Rattle.core.specs.Int.{int_max}
+use Rattle.std.specs.Int.{int_max}
 use Rattle.balance.proofs.Laws.{credits_is}
 use Rattle.balance.proofs.credits.Goals as goal
 
