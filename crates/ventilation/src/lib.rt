@@ -14,7 +14,11 @@ use ventilation_judge::Call;
 // The public call: nobody has to check anything beforehand. Ruled out, among others: the inlet's flow used for the exhaust; the
 // exhaust rounded down; the difference rounded and not its parts; CO2 of the inlet; a missing exhaust taken for none; a refusal that
 // has already written the row or an account.
-pub fn quantify(call: &Call<'_>, outcome: &mut [u8], accounts: &mut [u64; ACCOUNTS]) -> Result<Figures, Refusal>
+pub fn quantify(
+    call: &Call<'_>,
+    outcome: &mut [u8],
+    accounts: &mut [u64; ACCOUNTS],
+) -> Result<Figures, Refusal>
     ensures { Settled (call_in call.now (length outcome.old))
         (record { outcome = outcome.old; accounts = accounts.old })
         (record { outcome = outcome.new; accounts = accounts.new })

@@ -13,7 +13,7 @@ use Rattle.accounts.specs.declared.Totals.{Totals}
 use Rattle.accounts.specs.Account.{outcome_kinds, account_size, numbers_of}
 use Rattle.accounts.specs.Totals.{totals_over}
 use Rattle.accounts.specs.Private.{added, Modest, Room}
-use Rattle.accounts.proofs.Booking.{Booking, booking_start, booking_more, booking_room, booking_place, booking_done}
+use Rattle.accounts.proofs.Booking.{Booking, booking_start, booking_more, booking_room, booking_done}
 use Rattle.ventilation_device.specs.Device.{outcome_at}
 use Rattle.ventilation_devices.specs.Devices.{Lent, Results, air_in, account_in, outcome_part, results_of, Sound, AllWritten, Written}
 use Rattle.ventilation_devices.proofs.Laws.{account_ten, modest}
@@ -62,10 +62,6 @@ module _ (l : Lent) (devices : ℕ) (before : Results) where
     pub going_room : (a : Account) → d < devices → a ≡ account_in l d → Room t × Modest a
     going_room a h e =
         booking_room (account_in l) ten before.accounts x.booked devices x.sound.few_devices (modest l devices x.sound) h a e
-
-    pub going_place : (a : Account) → d < devices → a ≡ account_in l d → (d < devices_most) × (length a.outcomes ≡ outcome_kinds) ×
-        (length now.accounts ≡ devices_most * account_size)
-    going_place a h e = booking_place (account_in l) ten before.accounts x.booked (few h) a e
 
     pub going_done : devices ≤ d → AllWritten l devices before now t
     unfolding results_of
