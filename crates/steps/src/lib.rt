@@ -7,7 +7,7 @@ ghost use Rattle.rows.specs.Rows.{either};
 ghost use Rattle.protocol.specs.Kinds.{misplaced};
 ghost use Rattle.protocol.specs.Ranges.{checks_most, quantity_most, factor_most};
 ghost use Rattle.columns.specs.Lent.{checks_in, fuel_in};
-ghost use Rattle.steps.specs.Wrong.{wrong_check};
+ghost use Rattle.steps.specs.Wrong.{wrong_check, thing_place};
 ghost use Rattle.steps.specs.Step.{step_verdict};
 ghost use Rattle.steps.specs.Steps.{
   intervals_step,
@@ -19,7 +19,7 @@ ghost use Rattle.steps.specs.Steps.{
   checks_step,
   fuels_step,
 };
-ghost use Rattle.steps.specs.Scans.{paired, Kept};
+ghost use Rattle.steps.specs.Scans.{paired, Kept, FindsThing};
 
 use columns::{Checks, Fuel};
 use protocol::{Kind, Mine};
@@ -109,24 +109,42 @@ fn wrong_check(intervals: u32, checks: &Checks<'_>, g: usize, j: usize) -> bool
     0 < j && position <= checks.positions[first + (j - 1)]
 }
 
-// Each instrument's count, then its checks. Ruled out: a check past the count; of two positions that do not increase, the earlier;
-// an instrument's number for its device's.
-pub fn checks(intervals: u32, checks: &Checks<'_>) -> Result<(), Refusal>
+// The first wrong thing of the checks: the instrument, and its thing 0, the count, or its thing j + 1, its check j. Ruled out: a check
+// past the count; of two positions that do not increase, the earlier.
+pub fn first_wrong_check(intervals: u32, checks: &Checks<'_>) -> Option<(usize, usize)>
     requires { Kept (checks_in checks.now) }
-    ensures { result ≡ step_verdict (checks_step intervals (checks_in checks.now)) }
+    ensures { FindsThing (checks_step intervals (checks_in checks.now)) result }
 {
     for g in 0..checks.counts.len() {
         let count = checks.counts[g] as usize;
         if protocol::CHECKS < count {
-            return Err(Refusal::Check(g / 2, protocol::CHECKS));
+            return Some((g, 0));
         }
         for j in 0..count {
             if wrong_check(intervals, checks, g, j) {
-                return Err(Refusal::Check(g / 2, j));
+                return Some((g, j + 1));
             }
         }
     }
-    Ok(())
+    None
+}
+
+// The place of thing t, where thing 0 is a count. Ruled out: 0 for a count; t itself for an entry.
+pub fn thing_place(last: usize, t: usize) -> usize
+    ensures { result ≡ thing_place last t }
+{
+    if t == 0 { last } else { t - 1 }
+}
+
+// Each instrument's count, then its checks. Ruled out: an instrument's number for its device's; a count's place told as 0.
+pub fn checks(intervals: u32, checks: &Checks<'_>) -> Result<(), Refusal>
+    requires { Kept (checks_in checks.now) }
+    ensures { result ≡ step_verdict (checks_step intervals (checks_in checks.now)) }
+{
+    match first_wrong_check(intervals, checks) {
+        Some((g, t)) => Err(Refusal::Check(g / 2, thing_place(protocol::CHECKS, t))),
+        None => Ok(()),
+    }
 }
 
 fn wrong_line(quantity: u32, factor: u32) -> bool

@@ -1,39 +1,14 @@
--- The first wrong count or check, all instruments' things in one scan.
-use Rattle.std.proofs.Common.{refl, sym, ◌∙◌, arith, lt-ltb, le-ltb}
-use Rattle.rows.proofs.Scan.{passed_all}
-use Rattle.steps.specs.Steps.{checks_step}
-use Rattle.steps.proofs.Verdicts.{goes, end_clean}
-use Rattle.steps.proofs.Tests.{thing_stops, thing_goes, rest_goes, check_stops, check_goes, thing_count}
+-- What is told of the first wrong thing.
+use Prim.Native.Nat.{ℕ, ◌/◌}
+use Rattle.std.proofs.Common.{Err, ap, ◌∙◌}
+use Rattle.refusals.specs.declared.Refusal.TheVariants as Refusal
+use Rattle.steps.proofs.Tests.{thing_told, things_right}
 use Rattle.steps.proofs.checks.Goals as goal
 
-pub returns-then-count-gt-CHECKS : goal.returns-then-count-gt-CHECKS
-returns-then-count-gt-CHECKS c =
-    thing_stops _ _ _ c.loop-g-test.true 0 (omega arith) c.loop-g.invariant
-    (thing_count _ _ _ 0 refl ∙ lt-ltb _ _ c.if-count-gt-CHECKS.true)
+pub returns-in-Some : goal.returns-in-Some
+returns-in-Some c =
+    ap (λ (p : ℕ). Err (Refusal.Check (c.in-Some.g / 2) p)) c.thing_place.ensures
+    ∙ thing_told _ _ _ _ c.in-Some.ensures
 
-pub loop-j-init : goal.loop-j-init
-loop-j-init c =
-    thing_goes _ _ _ c.loop-g-test.true 0 (omega arith) c.loop-g.invariant (thing_count _ _ _ 0 refl ∙ le-ltb _ _ c.if-count-gt-CHECKS.false)
-
-pub returns-then-wrong_check : goal.returns-then-wrong_check
-returns-then-wrong_check c =
-    let few = c.if-count-gt-CHECKS.false in
-    let h = c.loop-j-test.true in
-    check_stops _ _ _ c.loop-g-test.true c.loop-j.j (omega arith) c.loop-j.invariant h (sym c.wrong_check.ensures ∙ c.if-wrong_check.true)
-
-pub loop-j-preserved : goal.loop-j-preserved
-loop-j-preserved c =
-    let few = c.if-count-gt-CHECKS.false in
-    let h = c.loop-j-test.true in
-    check_goes _ _ _ c.loop-g-test.true c.loop-j.j (omega arith) c.loop-j.invariant h (sym c.wrong_check.ensures ∙ c.if-wrong_check.false)
-
-pub loop-g-preserved : goal.loop-g-preserved
-loop-g-preserved c =
-    let few = c.if-count-gt-CHECKS.false in
-    rest_goes _ _ _ c.loop-g-test.true _ c.loop-j-test.false c.loop-j.invariant
-
-pub returns : goal.returns
-unfolding checks_step
-returns c =
-    let h = c.loop-g-test.false in
-    sym (goes _ _ _ (passed_all _ _ _ c.loop-g.invariant (omega arith)) (omega arith) ∙ end_clean)
+pub returns-in-None : goal.returns-in-None
+returns-in-None c = things_right _ _ c.in-None.ensures

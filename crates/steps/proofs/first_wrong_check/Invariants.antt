@@ -2,7 +2,7 @@
 use Rattle.std.proofs.Common.{◌+◌}
 use Rattle.columns.specs.Lent.{checks_in}
 use Rattle.steps.proofs.Tests.{ThingsPassed}
-use Rattle.steps.proofs.checks.Given as goal
+use Rattle.steps.proofs.first_wrong_check.Given as goal
 
 abbrev pub invariant-loop-j : goal.invariant-loop-j
 invariant-loop-j l = ThingsPassed l.intervals (checks_in l.checks) l.g (1 + l.j)
