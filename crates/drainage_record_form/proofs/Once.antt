@@ -8,9 +8,10 @@ use native.Mathlib.Omega.{arith}
 use lib.IntN.{ℤ}
 use lib.ListN.{length, take, drop, take-append-drop}
 use lib.Seq.{length-take-le}
+use Rattle.std.proofs.lemmas.Bool.{cases_lt}
+use Rattle.std.proofs.lemmas.List.{append_cancel_left}
 use Rattle.text.specs.Form.{Of, Stands, Broken}
-use Rattle.text.proofs.Decimals.{below_or}
-use Rattle.text.proofs.Forms.{cancel, broken_not_read, broken_once}
+use Rattle.text.proofs.Forms.{broken_not_read, broken_once}
 use Rattle.text.proofs.Settled.{stands_in}
 use Rattle.columns.specs.Series.{series_of, checks_of, fuel_of}
 use Rattle.drainage_record_form.specs.Field.{Field, line_form, line_text}
@@ -30,7 +31,7 @@ no_rows = record { fuel = fuel_of [] []; kinds = []; checks = checks_of [] [] []
 module _ (t : List ℕ) (i p q : ℕ) (v w : List ℕ) (a : Stands t i p v) (b : Stands t i q w) where
   alike : v ++ drop p t ≡ w ++ drop q t
   alike =
-      cancel (take i t) (v ++ drop p t) (w ++ drop q t)
+      append_cancel_left (take i t) (v ++ drop p t) (w ++ drop q t)
       (sym (append_assoc (take i t) v (drop p t)) ∙ ap (λ (l : List ℕ). l ++ drop p t) (sym a.is) ∙ take-append-drop p t
       ∙ sym (take-append-drop q t) ∙ ap (λ (l : List ℕ). l ++ drop q t) b.is ∙ append_assoc (take i t) w (drop q t))
 
@@ -44,7 +45,7 @@ module _ (t : List ℕ) (i p q : ℕ) (v w : List ℕ) (a : Stands t i p v) (b :
 stands_next : (t : List ℕ) (i p q : ℕ) (v w u : List ℕ) → Stands t i p v → Stands t i q (v ++ (w ++ u)) → Stands t p (p + length w) w
 stands_next t i p q v w u a b =
     let rest : drop p t ≡ w ++ (u ++ drop q t) =
-    cancel v (drop p t) (w ++ (u ++ drop q t))
+    append_cancel_left v (drop p t) (w ++ (u ++ drop q t))
     (alike t i p q v (v ++ (w ++ u)) a b ∙ append_assoc v (w ++ u) (drop q t) ∙ ap (λ (l : List ℕ). v ++ l) (append_assoc w u (drop q t)))
     in
     let joined : take p t ++ (w ++ (u ++ drop q t)) ≡ t = ap (λ (l : List ℕ). take p t ++ l) (sym rest) ∙ take-append-drop p t in
@@ -89,7 +90,7 @@ module _ {from : Plan → Plan} {t : List ℕ} {i : ℕ} {b : Rows → Rows} whe
   pub went_once : {p q : ℕ} {a c : Rows → Rows} → Went from (λ r. r) t i p b a → Went from (λ r. r) t i q b c → (p ≡ q) × ((o : Rows) → a o ≡ c o)
   went_once {p} {q} x y =
       let e : x.lines ≡ y.lines =
-      ⊎_elim (λ h. sym (went_lines x y (omega arith))) (λ h. went_lines y x h) (below_or (length x.lines) (length y.lines))
+      ⊎_elim (λ h. sym (went_lines x y (omega arith))) (λ h. went_lines y x h) (cases_lt (length x.lines) (length y.lines))
       in (
         end_once t i p q (text_of x.lines) (text_of y.lines) x.stands y.stands (ap text_of e),
         λ o. sym (x.leaves o) ∙ ap (λ (ls : List Line). stored ls (b o)) e ∙ y.leaves o,
@@ -135,7 +136,7 @@ module _ {from : Plan → Plan} {t : List ℕ} {i : ℕ} {b : Rows → Rows} whe
 
   -- What is read to its end does not break off.
   pub went_not_stopped : {p k : ℕ} {a c : Rows → Rows} → Went from (λ r. r) t i p b a → Stopped from t i k b c → ⊥
-  went_not_stopped {p} y x = ⊎_elim (λ h. fewer h) (λ h. more h) (below_or (length y.lines) (length x.lines))
+  went_not_stopped {p} y x = ⊎_elim (λ h. fewer h) (λ h. more h) (cases_lt (length y.lines) (length x.lines))
     where
       fewer : length y.lines < length x.lines → ⊥
       fewer h =
@@ -157,7 +158,7 @@ module _ {from : Plan → Plan} {t : List ℕ} {i : ℕ} {b : Rows → Rows} whe
       let e : y.lines ≡ x.lines =
       ⊎_elim (λ h. stop_lines x y.place (ask y.field (y.next done)) y.lines (y.way done) y.stands (omega arith))
       (λ h. sym (stop_lines y x.place (ask x.field (x.next done)) x.lines (x.way done) x.stands h))
-      (below_or (length x.lines) (length y.lines))
+      (cases_lt (length x.lines) (length y.lines))
       in
       let field : x.field ≡ y.field =
       field_once x.field y.field (x.next done) (y.next done) (stop_plan x (ask y.field (y.next done)) y.lines (y.way done) e)

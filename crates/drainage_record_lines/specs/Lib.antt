@@ -1,2 +1,3 @@
 pub mod Part
 pub mod Inner
+pub mod Lent

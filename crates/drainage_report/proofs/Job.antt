@@ -1,5 +1,5 @@
 -- The whole job from what its parts promise: the reader's answer, quantification's, and what was written. Assumes nothing.
-use Rattle.std.proofs.Common.{Result, Ok, Err}
+use Rattle.std.proofs.Common.{Result, Ok, Err, min}
 use Prim.Native.Nat.{ℕ, ◌*◌, ◌≤◌, ◌<◌}
 use mathlib.Core.Path.{◌≡◌, refl, sym, ap, ◌∙◌, subst}
 use mathlib.Core.Bool.{Bool, true, false}
@@ -8,7 +8,7 @@ use native.Mathlib.Omega.{arith}
 use lib.Dec.{leb}
 use lib.IntN.{ℤ, pos}
 use lib.ListN.{length, take, length-replicate}
-use borrow.Author.Tests.{leb-true}
+use borrow.Author.Tests.{leb-true, leb-false}
 use Rattle.rows.specs.Rows.{pick}
 use Rattle.protocol.specs.Ranges.{intervals_most, devices_most, device_checks, fuels_most}
 use Rattle.text.specs.Answer.{Leads}
@@ -33,25 +33,22 @@ use Rattle.drainage_record.specs.declared.Header.{Header}
 use Rattle.drainage_outcomes.specs.Rows.{Rows as ResultRows}
 use Rattle.drainage_report.specs.Quantified.{Roomy, Quantified, part_of, parts_of, parts_after, call_of, answer_to}
 use Rattle.drainage_report.specs.Report.{refusal_text, printed, Lent, reader_rows, output_of, results_of, AsLong, Whatever, Reported}
-use Rattle.drainage_report.proofs.Laws.{lesser_first}
 
-lesser_second : (a b : ℕ) → lesser a b ≤ b
-lesser_second a b = le_of (leb a b) refl
+lesser_both : (a b : ℕ) → (lesser a b ≤ a) × (lesser a b ≤ b)
+lesser_both a b = by (leb a b) refl
   where
-    le_of : (t : Bool) → leb a b ≡ t → lesser a b ≤ b
-    le_of true h = omega (arith, ap (λ (x : Bool). pick x a b) h, leb-true a b h)
-    le_of false h = omega (arith, ap (λ (x : Bool). pick x a b) h)
+    by : (t : Bool) → leb a b ≡ t → (lesser a b ≤ a) × (lesser a b ≤ b)
+    by true h = let e : lesser a b ≡ a = ap (λ (x : Bool). pick x a b) h in (omega arith, omega (arith, leb-true a b h))
+    by false h = let e : lesser a b ≡ b = ap (λ (x : Bool). pick x a b) h in (omega (arith, leb-false a b h), omega arith)
 
 -- Each series has at least as many entries as the shortest.
 room_first : (a b c d e m : ℕ) → m ≤ lesser a (lesser b (lesser c (lesser d e))) → (m ≤ a) × (m ≤ b) × (m ≤ c) × (m ≤ d) × (m ≤ e)
 room_first a b c d e m h =
-    let x : m ≤ a = omega (arith, h, lesser_first a (lesser b (lesser c (lesser d e))) _ refl) in
-    let r : m ≤ lesser b (lesser c (lesser d e)) = omega (arith, h, lesser_second a (lesser b (lesser c (lesser d e)))) in
-    let y : m ≤ b = omega (arith, r, lesser_first b (lesser c (lesser d e)) _ refl) in
-    let s : m ≤ lesser c (lesser d e) = omega (arith, r, lesser_second b (lesser c (lesser d e))) in
-    let z : m ≤ c = omega (arith, s, lesser_first c (lesser d e) _ refl) in
-    let t : m ≤ lesser d e = omega (arith, s, lesser_second c (lesser d e)) in
-    (x, y, z, omega (arith, t, lesser_first d e _ refl), omega (arith, t, lesser_second d e))
+    let x = lesser_both a (lesser b (lesser c (lesser d e))) in
+    let y = lesser_both b (lesser c (lesser d e)) in
+    let z = lesser_both c (lesser d e) in
+    let t = lesser_both d e in
+    (omega arith, omega arith, omega arith, omega arith, omega arith)
 
 pub room_each : (r : Rows) (m : ℕ) → m ≤ room_of r → Room r.series m
 room_each r m h =
@@ -259,9 +256,9 @@ as_long_serves : (k l : Lent) → AsLong k l → Serves k l
 as_long_serves k l e =
     record {
       room = omega (arith, same_room k l e);
-      outcome = λ m h. ap (λ (n : ℕ). lesser n m) e.outcome;
-      flow_used = λ m h. ap (λ (n : ℕ). lesser n m) e.flow_used;
-      content_used = λ m h. ap (λ (n : ℕ). lesser n m) e.content_used;
+      outcome = λ m h. ap (λ (n : ℕ). min n m) e.outcome;
+      flow_used = λ m h. ap (λ (n : ℕ). min n m) e.flow_used;
+      content_used = λ m h. ap (λ (n : ℕ). min n m) e.content_used;
     }
 
 module _ (t : List ℕ) (k l : Lent) (e : AsLong k l) where
@@ -314,16 +311,18 @@ module _ (t : List ℕ) (l : Lent) (rows : Rows) (old new : List ℕ) (n : ℕ) 
         whatever = λ k e. whatever_else t k l e rows a r;
       }
 
-  -- The reader refused.
-  pub reported_refusal : (a : Result Header Refusal) (x : Told) → ((h : Header) → a ≡ Ok h → ⊥) → ReadRight t (reader_rows l) rows a → x ≡ told_by a
-      → Leads (refusal_text x) old new n → Reported t l (lent_as rows l.results) old new n
-  reported_refusal (Ok h) x none r e w = absurd (none h refl)
-  reported_refusal (Err y) x none r e w =
-      reported (Err y) r (subst (λ (z : Told). Leads (refusal_text z) old new n) e w)
+  -- The reader refused: that is printed, and the result rows are as they were.
+  pub reported_refusal : (a : Result Header Refusal) (r : Refusal) (b : Result Figures Refusal) (results : ResultRows) → a ≡ Err r
+      → ReadRight t (reader_rows l) rows a → b ≡ Err r → results ≡ l.results → Leads (printed b) old new n → Reported t l (lent_as rows results) old new n
+  reported_refusal a r b results e x eb er w =
+      subst (λ (s : ResultRows). Reported t l (lent_as rows s) old new n) (sym er)
+      (reported (Err r) (subst (ReadRight t (reader_rows l) rows) e x) (subst (λ (y : Result Figures Refusal). Leads (printed y) old new n) eb w))
 
   -- A record was read and quantified.
-  pub reported_record : (a : Result Header Refusal) (h : Header) (b : Result Figures Refusal) (results : ResultRows) → a ≡ Ok h → ReadRight t (reader_rows l) rows a
-      → Quantified h rows l.results results b → Leads (printed b) old new n → Reported t l (lent_as rows results) old new n
-  reported_record a h b results e r q w =
-      subst (λ (x : ResultRows). Reported t l (lent_as rows x) old new n) (sym q.results)
-      (reported (Ok h) (subst (ReadRight t (reader_rows l) rows) e r) (subst (λ (x : Result Figures Refusal). Leads (printed x) old new n) q.answer w))
+  pub reported_record : (a : Result Header Refusal) (h : Header) (b made : Result Figures Refusal) (results left : ResultRows) → a ≡ Ok h
+      → ReadRight t (reader_rows l) rows a → b ≡ made → results ≡ left → Quantified h rows l.results left made → Leads (printed b) old new n
+      → Reported t l (lent_as rows results) old new n
+  reported_record a h b made results left e x eb er q w =
+      subst (λ (s : ResultRows). Reported t l (lent_as rows s) old new n) (sym (er ∙ q.results))
+      (reported (Ok h) (subst (ReadRight t (reader_rows l) rows) e x)
+      (subst (λ (y : Result Figures Refusal). Leads (printed y) old new n) (eb ∙ q.answer) w))

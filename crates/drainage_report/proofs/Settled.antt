@@ -1,20 +1,16 @@
 -- The promise settles the output and every lent entry, a text longer than any record file is answered by its beginning, and rows
 -- longer than a record needs make no difference.
 -- Assumes nothing.
-use Rattle.std.proofs.Common.{Result, Ok, Err}
+use Rattle.std.proofs.Common.{Result, Ok, Err, min}
 use Prim.Native.Nat.{ℕ, ◌+◌, ◌*◌, ◌<◌, ◌≤◌}
-use mathlib.Core.Path.{◌≡◌, refl, sym, ap, ◌∙◌, subst}
-use mathlib.Core.Bool.{Bool, true, false}
+use mathlib.Core.Path.{◌≡◌, sym, ap, ◌∙◌, subst}
 use mathlib.Core.List.{List, ◌++◌}
 use native.Mathlib.Omega.{arith}
-use lib.Dec.{leb}
 use lib.ListN.{length, take, drop}
-use borrow.Author.Tests.{leb-true}
-use Rattle.rows.specs.Rows.{pick}
 use Rattle.text.specs.Answer.{Leads}
 use Rattle.refusals.specs.declared.Refusal.{Refusal}
 use Rattle.refusals.specs.Table.{told_of, told_by}
-use Rattle.drainage_record_form.specs.Rows.{room_of, lesser}
+use Rattle.drainage_record_form.specs.Rows.{room_of}
 use Rattle.drainage_record_form.specs.File.{Headed}
 use Rattle.drainage_record_form.proofs.Files.{headed_once}
 use Rattle.drainage_record.specs.Read.{ReadRight, Refused}
@@ -73,14 +69,6 @@ pub record Longer (k l : Lent) : Type 0 where
   pub flow_used : room_of (reader_rows l) ≤ length k.results.flow
   pub content_used : room_of (reader_rows l) ≤ length k.results.content
 
--- A row that is long enough is handed over up to m.
-whole_part : (a m : ℕ) → m ≤ a → lesser a m ≡ m
-whole_part a m h = part_of (leb a m) refl
-  where
-    part_of : (t : Bool) → leb a m ≡ t → lesser a m ≡ m
-    part_of true e = omega (arith, h, ap (λ (x : Bool). pick x a m) e, leb-true a m e)
-    part_of false e = ap (λ (x : Bool). pick x a m) e
-
 longer_serves : (k l : Lent) → Longer l l → Longer k l → Serves k l
 longer_serves k l own other =
     record {
@@ -90,8 +78,8 @@ longer_serves k l own other =
       content_used = λ m h. both (length k.results.content) (length l.results.content) m h other.content_used own.content_used;
     }
   where
-    both : (a b m : ℕ) → m ≤ room_of (reader_rows l) → room_of (reader_rows l) ≤ a → room_of (reader_rows l) ≤ b → lesser a m ≡ lesser b m
-    both a b m h p q = whole_part a m (omega (arith, h, p)) ∙ sym (whole_part b m (omega (arith, h, q)))
+    both : (a b m : ℕ) → m ≤ room_of (reader_rows l) → room_of (reader_rows l) ≤ a → room_of (reader_rows l) ≤ b → min a m ≡ min b m
+    both a b m h p q = omega arith
 
 -- Longer rows give the same output, unless the answer is 13. So a program may lend rows that are just as long as the record.
 pub report_longer : (t : List ℕ) (k l after : Lent) (old new : List ℕ) (n : ℕ) → Longer l l → Longer k l → (x : Reported t l after old new n)

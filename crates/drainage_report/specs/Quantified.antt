@@ -1,6 +1,6 @@
 -- The call that a record makes, and what comes of it.
 -- Assumes nothing.
-use Rattle.std.specs.Prelude.{ℕ, ◌*◌, ◌≤◌, ◌≡◌, List, ◌++◌, length, take, drop, replicate, Result}
+use Rattle.std.specs.Prelude.{ℕ, ◌*◌, ◌≤◌, ◌≡◌, List, ◌++◌, min, length, take, drop, replicate, Result}
 use Rattle.refusals.specs.declared.Refusal.{Refusal}
 use Rattle.protocol.specs.Ranges.{intervals_most, devices_most}
 use Rattle.columns.specs.Series.{FuelRoom, ChecksRoom, Room, series_take, checks_take, fuel_take}
@@ -11,12 +11,12 @@ use Rattle.drainage_devices.specs.Devices.{Results}
 use Rattle.drainage.specs.Promise.{answer_by, results_by}
 use Rattle.figures.specs.declared.Figures.{Figures}
 use Rattle.drainage_outcomes.specs.Rows.{Rows as ResultRows}
-use Rattle.drainage_record_form.specs.Rows.{Rows, lesser}
+use Rattle.drainage_record_form.specs.Rows.{Rows}
 use Rattle.drainage_record.specs.declared.Header.{Header}
 
 -- A result row's part that is lent to quantification: as long as N and D ask, or the whole row where it is shorter.
 abbrev pub part_of : ℕ → List ℕ → ℕ
-part_of m row = lesser (length row) m
+part_of m row = min (length row) m
 
 -- the accounts are the job's own, zeros beforehand
 abbrev pub parts_of : ℕ → ResultRows → Results

@@ -7,6 +7,7 @@ use figures::Figures;
 use refusals::{Refusal, Told};
 use std::io;
 use std::io::Print;
+use writing::Writer;
 
 // The first n bytes of a buffer.
 fn print<P: Print>(output: &P, buf: &[u8], n: usize) -> io::Result<()> {
@@ -20,7 +21,12 @@ fn print_line<P: Print>(output: &P, key: &[u8], v: u64) -> io::Result<()>
     requires { length key.now ≤ 32 }
 {
     let mut buf = [0u8; 64];
-    let n = writing::put_line(&mut buf, 0, key, v);
+    let mut to = Writer {
+        buf: &mut buf,
+        at: 0,
+    };
+    to.line(key, v);
+    let n = to.at;
     print(output, &buf, n)
 }
 

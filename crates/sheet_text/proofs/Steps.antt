@@ -19,7 +19,10 @@ use Rattle.text.specs.Line.{Entry, line_of, line, lines_of, AllFit, lines}
 use Rattle.text.specs.Answer.{Put}
 use Rattle.text.proofs.Forms.{refused_alike}
 use Rattle.text.proofs.Writing.{put_leads}
-use Rattle.text.proofs.Tables.{lines_read, lines_broken, lines_past, lines_all, lines_put, lines_longest, lines_snoc, Wide, longest}
+use Rattle.text.proofs.Tables.{lines_read, lines_broken, lines_past, lines_all, lines_longest, lines_snoc, Wide, longest}
+use Rattle.writing.specs.declared.Writer.{Writer}
+use Rattle.writing.specs.Wrote.{Wrote}
+use Rattle.writing.proofs.Parts.{join}
 use Rattle.figures.specs.declared.Figures.{Figures}
 use Rattle.sheet_text.specs.Sheet.{schema, values_of, text_of, sheet_most, InRange, IsSheet, unsigned64, signed64}
 use Rattle.sheet_text.specs.Read.{SheetOf}
@@ -244,30 +247,25 @@ signed_back z h = to_z-of_z w64 z (fits z h)
     fits (pos n) g = record { sfits = omega (arith, g.1) }
     fits (negsuc n) g = record { sfits = g }
 
-module _ (f : Figures) (fit : InRange f) (i : ℕ) (h : i < 15) {old mid : List ℕ} {p : ℕ} (a : Put old 0 (lines_of (take i schema) (take i (values_of f))) mid p) where
-  es_is : take (suc i) schema ≡ take i schema ++ (entry_at i ∷ [])
-  es_is = take-suc schema i blank (omega (arith, schema_length))
-
-  zs_is : take (suc i) (values_of f) ≡ take i (values_of f) ++ (value_at f i ∷ [])
-  zs_is = take-suc (values_of f) i (pos 0) (omega (arith, values_length f))
-
-  pub put_step : {new : List ℕ} {q : ℕ} → Put mid p (line_of (entry_at i).key (value_at f i)) new q → Put old 0
-      (lines_of (take (suc i) schema) (take (suc i) (values_of f))) new q
+-- The lines up to place i are written by a writer that began at 0.
+module _ (f : Figures) (fit : InRange f) (i : ℕ) (h : i < 15) {a b : Writer} (w : Wrote a (lines_of (take i schema) (take i (values_of f))) b) where
+  text_is : lines_of (take (suc i) schema) (take (suc i) (values_of f)) ≡ lines_of (take i schema) (take i (values_of f)) ++ line_of (entry_at i).key
+      (value_at f i)
   unfolding InRange
-  put_step {new} {q} b =
-      rw (es_is, zs_is) (lines_put (take i schema) (entry_at i) (take i (values_of f)) (value_at f i) old mid new p q (fit_take i schema (values_of f) fit) a b)
+  text_is =
+      rw (take-suc schema i blank (omega (arith, schema_length)), take-suc (values_of f) i (pos 0) (omega (arith, values_length f)))
+      (lines_snoc (take i schema) (entry_at i) (take i (values_of f)) (value_at f i) (fit_take i schema (values_of f) fit))
 
-  pub put_room : p + length (line_of (entry_at i).key (value_at f i)) < 2 ^ 64
+  pub put_step : {c : Writer} → Wrote b (line_of (entry_at i).key (value_at f i)) c → Wrote a (lines_of (take (suc i) schema) (take (suc i) (values_of f))) c
+  put_step {c} x = subst (λ (v : List ℕ). Wrote a v c) (sym text_is) (join w x)
+
+  pub put_room : a.at ≡ 0 → b.at + length (line_of (entry_at i).key (value_at f i)) < 2 ^ 64
   unfolding InRange
-  put_room =
-      let text : lines_of (take (suc i) schema) (take (suc i) (values_of f)) ≡ lines_of (take i schema) (take i (values_of f)) ++ line_of (entry_at i).key
-      (value_at f i) =
-      rw (es_is, zs_is) (lines_snoc (take i schema) (entry_at i) (take i (values_of f)) (value_at f i) (fit_take i schema (values_of f) fit))
-      in
+  put_room start =
       omega (
         arith,
-        a.stops,
-        ap length text,
+        w.put.stops,
+        ap length text_is,
         length-append (lines_of (take i schema) (take i (values_of f))) (line_of (entry_at i).key (value_at f i)),
         lines_longest (take (suc i) schema) (take (suc i) (values_of f)) (wide_take (suc i) schema schema_wide) (fit_take (suc i) schema (values_of f) fit),
         longest_take (suc i) schema,
@@ -280,26 +278,26 @@ module _ (f : Figures) (fit : InRange f) (i : ℕ) (h : i < 15) {old mid : List 
     unfolding InRange
     same = signed_back (value_at f i) (subst (λ (x : Range). Fit x (value_at f i)) r (fit_at schema (values_of f) i fit (omega (arith, schema_length))))
 
-    pub put_signed_step : {new : List ℕ} {q : ℕ} → Put mid p (line_of (entry_at i).key (to_z w64 (of_z w64 (value_at f i)))) new q → Put old 0
-        (lines_of (take (suc i) schema) (take (suc i) (values_of f))) new q
-    put_signed_step {new} {q} b = put_step (subst (λ (z : ℤ). Put mid p (line_of (entry_at i).key z) new q) same b)
+    pub put_signed_step : {c : Writer} → Wrote b (line_of (entry_at i).key (to_z w64 (of_z w64 (value_at f i)))) c
+        → Wrote a (lines_of (take (suc i) schema) (take (suc i) (values_of f))) c
+    put_signed_step {c} x = put_step (subst (λ (z : ℤ). Wrote b (line_of (entry_at i).key z) c) same x)
 
-    pub put_signed_room : p + length (line_of (entry_at i).key (to_z w64 (of_z w64 (value_at f i)))) < 2 ^ 64
-    put_signed_room = subst (λ (z : ℤ). p + length (line_of (entry_at i).key z) < 2 ^ 64) (sym same) put_room
+    pub put_signed_room : a.at ≡ 0 → b.at + length (line_of (entry_at i).key (to_z w64 (of_z w64 (value_at f i)))) < 2 ^ 64
+    put_signed_room start = subst (λ (z : ℤ). b.at + length (line_of (entry_at i).key z) < 2 ^ 64) (sym same) (put_room start)
 
 pub sheet_longest : (f : Figures) → InRange f → length (text_of f) ≤ sheet_most
 unfolding text_of InRange
 sheet_longest f fit = omega (arith, lines_longest schema (values_of f) schema_wide fit, schema_longest)
 
-pub put_none : (f : Figures) (old : List ℕ) → Put old 0 (lines_of (take 0 schema) (take 0 (values_of f))) old 0
-put_none f old = record { stops = refl; is = refl }
+pub put_none : (f : Figures) (a : Writer) → Wrote a (lines_of (take 0 schema) (take 0 (values_of f))) a
+put_none f a = record { same = refl; put = record { stops = omega arith; is = refl } }
 
-pub put_all : (f : Figures) {old new : List ℕ} {p : ℕ} → Put old 0 (lines_of (take 15 schema) (take 15 (values_of f))) new p → Put old 0 (text_of f) new p
+pub put_all : (f : Figures) {a b : Writer} → Wrote a (lines_of (take 15 schema) (take 15 (values_of f))) b → Wrote a (text_of f) b
 unfolding text_of
-put_all f {old} {new} {p} a =
-    subst (λ (w : List ℕ). Put old 0 w new p)
+put_all f {a} {b} w =
+    subst (λ (v : List ℕ). Wrote a v b)
     (ap (λ (es : List Entry). lines_of es (take 15 (values_of f))) (take_all 15 schema (omega (arith, schema_length)))
-    ∙ ap (lines_of schema) (take_all 15 (values_of f) (omega (arith, values_length f)))) a
+    ∙ ap (lines_of schema) (take_all 15 (values_of f) (omega (arith, values_length f)))) w
 
 -- A run over no buffer writes nothing.
 pub nothing : (x w : List ℕ) → x ≡ sets [] 0 w → x ≡ []

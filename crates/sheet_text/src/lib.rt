@@ -4,6 +4,7 @@
 ghost use Rattle.std.specs.Prelude.{◌≤◌, ◌≡◌, length, take};
 ghost use Rattle.text.specs.Answer.{Put};
 ghost use Rattle.text.specs.Line.{lines_of};
+ghost use Rattle.writing.specs.Wrote.{Wrote};
 ghost use Rattle.sheet_text.specs.Sheet.{text_of, schema, values_of, sheet_most, InRange};
 ghost use Rattle.sheet_text.specs.Read as Read;
 ghost use Rattle.sheet_text.specs.Head.{HeadIn, FiguresIn};
@@ -12,6 +13,7 @@ ghost use Rattle.sheet_text.specs.Write as Write;
 use figures::Figures;
 use refusals::Refusal;
 use text::{Plain, Signed, Wrong};
+use writing::Writer;
 
 // The numbers of 64 bits, which each line takes.
 const UNSIGNED: Plain = Plain {
@@ -27,33 +29,35 @@ const SIGNED: Signed = Signed {
 // No sheet has more bytes (rule 11.11): a buffer of this length is never too short.
 pub const SHEET_MOST: usize = 465;
 
-// The sheet's first eight lines into the buffer as far as it goes, and their length. Ruled out: a line left out; two lines exchanged.
-fn put_head(f: Figures, buf: &mut [u8]) -> usize
-    requires { InRange f }
-    ensures { Put buf.old 0 (lines_of (take 8 schema) (take 8 (values_of f))) buf.new result }
+// Writes the sheet's first eight lines. Ruled out: a line left out; two lines exchanged.
+fn put_head(f: Figures, to: &mut Writer<'_>)
+    requires { (to.old.at ≡ 0) × InRange f }
+    ensures { Wrote to.old (lines_of (take 8 schema) (take 8 (values_of f))) to.new }
 {
-    let p1 = writing::put_line(buf, 0, b"intervals=", f.intervals);
-    let p2 = writing::put_line(buf, p1, b"devices=", f.devices);
-    let p3 = writing::put_line(buf, p2, b"counted=", f.counted);
-    let p4 = writing::put_line(buf, p3, b"replaced=", f.replaced);
-    let p5 = writing::put_line(buf, p4, b"excluded=", f.excluded);
-    let p6 = writing::put_line(buf, p5, b"methane_l=", f.methane_l);
-    let p7 = writing::put_line(buf, p6, b"destroyed_l=", f.destroyed_l);
-    writing::put_line(buf, p7, b"uncombusted_l=", f.uncombusted_l)
+    to.line(b"intervals=", f.intervals);
+    to.line(b"devices=", f.devices);
+    to.line(b"counted=", f.counted);
+    to.line(b"replaced=", f.replaced);
+    to.line(b"excluded=", f.excluded);
+    to.line(b"methane_l=", f.methane_l);
+    to.line(b"destroyed_l=", f.destroyed_l);
+    to.line(b"uncombusted_l=", f.uncombusted_l);
 }
 
 // The sheet's lines into the buffer as far as it goes, and their length whatever the buffer's.
 fn put_sheet(f: Figures, buf: &mut [u8]) -> usize
     ensures { Put buf.old 0 (text_of f) buf.new result × (length (text_of f) ≤ sheet_most) }
 {
-    let p8 = put_head(f, buf);
-    let p9 = writing::put_line(buf, p8, b"baseline_mg=", f.baseline_mg);
-    let p10 = writing::put_line(buf, p9, b"co2_mg=", f.co2_mg);
-    let p11 = writing::put_line(buf, p10, b"uncombusted_mg=", f.uncombusted_mg);
-    let p12 = writing::put_line(buf, p11, b"fuel_mg=", f.fuel_mg);
-    let p13 = writing::put_line(buf, p12, b"reduction_mg=", f.reduction_mg);
-    let p14 = writing::put_line(buf, p13, b"tonnes=", f.tonnes);
-    writing::put_line(buf, p14, b"credits=", f.credits)
+    let mut to = Writer { buf, at: 0 };
+    put_head(f, &mut to);
+    to.line(b"baseline_mg=", f.baseline_mg);
+    to.line(b"co2_mg=", f.co2_mg);
+    to.line(b"uncombusted_mg=", f.uncombusted_mg);
+    to.line(b"fuel_mg=", f.fuel_mg);
+    to.line(b"reduction_mg=", f.reduction_mg);
+    to.line(b"tonnes=", f.tonnes);
+    to.line(b"credits=", f.credits);
+    to.at
 }
 
 // Writes the sheet, and gives its length. Ruled out: a byte after the sheet's end changed; a part of the sheet in a buffer that is too short.

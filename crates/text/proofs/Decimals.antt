@@ -13,10 +13,6 @@ use borrow.Author.Tests.{lt-ltb, le-ltb, ltb-false}
 use Rattle.std.proofs.lemmas.Bool.{cases_lt, cases_order}
 use Rattle.text.specs.Decimal.{dec, digits_by}
 
--- `cases_lt` by the name that other crates use.
-pub below_or : (m n : ℕ) → (m < n) ⊎ (n ≤ m)
-below_or = cases_lt
-
 -- Fuel that is enough is enough.
 same : (f g : ℕ) (b : Bool) (v : ℕ) → ltb v 10 ≡ b → v < f → v < g → digits_by f b v ≡ digits_by g b v
 same zero g b v e hf hg = absurd (omega arith)

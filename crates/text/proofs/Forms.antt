@@ -13,10 +13,6 @@ use Rattle.text.specs.Form.{Form, Of, Begun, Started, Stands, ReadAs, Broken, Re
 
 -- ---- lists
 
--- `append_cancel_left` by the name that other crates use.
-pub cancel : (a x y : List ℕ) → a ++ x ≡ a ++ y → x ≡ y
-cancel = append_cancel_left
-
 -- Of two texts that agree, the longer begins with the shorter.
 pub splits : (a b p q : List ℕ) → a ++ b ≡ p ++ q → length p ≤ length a → (m : List ℕ) × (a ≡ p ++ m) × (m ++ b ≡ q)
 splits a b p q e h =

@@ -12,12 +12,11 @@ use Rattle.std.proofs.lemmas.List.{append_cancel_left}
 use Rattle.text.specs.Form.{Of, Begun, Stands, ReadAs, Broken, RefusedAt}
 use Rattle.text.specs.Decimal.{Fit, Range, decimal}
 use Rattle.text.specs.Line.{Entry, line_of, line, lines_of, AllFit, lines}
-use Rattle.text.specs.Answer.{Put}
 use Rattle.std.proofs.lemmas.Bool.{cases_lt}
 use Rattle.text.proofs.Decimals.{dec_20, dec_length}
 use Rattle.text.proofs.Forms.{splits, started_past, stands_one, stands_join, stands_none}
 use Rattle.text.proofs.Numbers.{line_free}
-use Rattle.text.proofs.Writing.{put-join, line_length}
+use Rattle.text.proofs.Writing.{line_length}
 
 lines_apart : (es : List Entry) (xs ys : List ℤ) (r s : List ℕ) → AllFit es xs → AllFit es ys → lines_of es xs ++ r ≡ lines_of es ys ++ s → xs ≡ ys
 lines_apart [] [] [] r s hx hy eq = refl
@@ -66,11 +65,6 @@ pub lines_snoc : (es : List Entry) (e : Entry) (zs : List ℤ) (z : ℤ) → All
 lines_snoc es e zs z h = lines_append es (e ∷ []) zs (z ∷ []) h ∙ ap (λ (l : List ℕ). lines_of es zs ++ l) (append-nil (line_of e.key z))
 
 -- ---- writing line by line
-
-pub lines_put : (es : List Entry) (e : Entry) (zs : List ℤ) (z : ℤ) (old mid new : List ℕ) (p q : ℕ) → AllFit es zs
-    → Put old 0 (lines_of es zs) mid p → Put mid p (line_of e.key z) new q → Put old 0 (lines_of (es ++ (e ∷ [])) (zs ++ (z ∷ []))) new q
-lines_put es e zs z old mid new p q h a b =
-    subst (λ (w : List ℕ). Put old 0 w new q) (sym (lines_snoc es e zs z h)) (put-join old mid new (lines_of es zs) (line_of e.key z) 0 p q a b)
 
 -- ---- reading line by line
 

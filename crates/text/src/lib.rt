@@ -48,8 +48,8 @@ fn agreed(t: &[u8], start: usize, key: &[u8]) -> usize
     key.len()
 }
 
-// Whether the whole key stands in t from `start`. Room is tested once, and four bytes are compared as one number: byte by byte, as
-// `starts_with` does it, reading takes a third more instructions (bench/README.md).
+// Whether the whole key stands in t from `start`. Room is tested once, and four bytes are compared as one number: `starts_with` takes a
+// twelfth more instructions over the lines of an interval.
 // Ruled out: true for a key whose last byte differs; true where the text stops inside the key.
 fn same(t: &[u8], start: usize, key: &[u8]) -> bool
     requires { start ≤ length t.now }

@@ -2,45 +2,63 @@
 // crates/text, whose readers read them back.
 #![tactic(auto)]
 
-ghost use Rattle.std.specs.Prelude.{ℤ, ◌+◌, ◌^◌, ◌<◌, ◌≡◌, [], ◌∷◌, length, set, false, pos, negsuc};
+ghost use Rattle.std.specs.Prelude.{ℤ, ◌+◌, ◌^◌, ◌<◌, ◌≡◌, [], ◌∷◌, length, false, pos, negsuc};
 ghost use Rattle.std.specs.Int.Signed.{non_neg};
 ghost use Rattle.text.specs.Decimal.{dec, decimal};
 ghost use Rattle.text.specs.Line.{line_of};
-ghost use Rattle.text.specs.Answer.{Put};
+ghost use Rattle.writing.specs.Wrote.{Wrote};
 
-// Stores a byte, or nothing past the end: so one function both measures (on an empty buffer) and writes.
-fn store(buf: &mut [u8], at: usize, b: u8)
-    ensures { buf.new ≡ set buf.old at b }
-{
-    if at < buf.len() {
-        buf[at] = b;
-    }
+// A lent buffer and the place up to which it is written. Past the buffer's end nothing is stored and the place goes on: so one function
+// both measures (on an empty buffer) and writes.
+#[derive(Drop)]
+pub struct Writer<'a> {
+    pub buf: &'a mut [u8],
+    pub at: usize,
 }
 
-// Writes the bytes of w from `at`, and gives the place after them.
-// Ruled out: a byte after w's end changed; the buffer's end given as the place.
-pub fn put_bytes(buf: &mut [u8], at: usize, w: &[u8]) -> usize
-    requires { at + length w.now < 2 ^ 64 }
-    ensures { Put buf.old at w.now buf.new result }
-{
-    for i in 0..w.len() {
-        store(buf, at + i, w[i]);
+impl Writer<'_> {
+    fn byte(&mut self, b: u8)
+        requires { self.old.at + 1 < 2 ^ 64 }
+        ensures { Wrote self.old (b ∷ []) self.new }
+    {
+        if self.at < self.buf.len() {
+            self.buf[self.at] = b;
+        }
+        self.at += 1;
     }
-    at + w.len()
-}
 
-// Writes the digits of v from `at`, and gives the place after them.
-fn put_digits(buf: &mut [u8], at: usize, v: u64) -> usize
-    requires { at + length (dec v) < 2 ^ 64 }
-    ensures { Put buf.old at (dec v) buf.new result }
-{
-    if v < 10 {
-        store(buf, at, 48 + (v as u8));
-        at + 1
-    } else {
-        let p = put_digits(buf, at, v / 10);
-        store(buf, p, 48 + ((v % 10) as u8));
-        p + 1
+    // Writes the bytes of w. Ruled out: a byte after w's end changed; the buffer's end for the place.
+    pub fn bytes(&mut self, w: &[u8])
+        requires { self.old.at + length w.now < 2 ^ 64 }
+        ensures { Wrote self.old w.now self.new }
+    {
+        for b in w {
+            self.byte(*b);
+        }
+    }
+
+    // Writes the digits of v.
+    fn digits(&mut self, v: u64)
+        requires { self.old.at + length (dec v) < 2 ^ 64 }
+        ensures { Wrote self.old (dec v) self.new }
+    {
+        if v < 10 {
+            self.byte(48 + (v as u8));
+        } else {
+            self.digits(v / 10);
+            self.byte(48 + ((v % 10) as u8));
+        }
+    }
+
+    // Writes a line: the key, which ends with `=`, the number and byte 10.
+    // Ruled out: a line without its byte 10; byte 10 one place further on; the minus before the key.
+    pub fn line<N: Number>(&mut self, key: &[u8], n: N)
+        requires { self.old.at + length (line_of key.now (N.number n)) < 2 ^ 64 }
+        ensures { Wrote self.old (line_of key.now (N.number n)) self.new }
+    {
+        self.bytes(key);
+        n.put(self);
+        self.byte(10);
     }
 }
 
@@ -56,43 +74,30 @@ fn short_of_minus_one(z: i64) -> u64
 pub trait Number: Copy {
     ghost number: { Self → ℤ };
 
-    // Writes it from `at`, with a minus where it is negative, and gives the place after it.
+    // Writes it, with a minus where it is negative.
     // Ruled out: the digits backwards; -0 for 0; a wrong digit for the least number, which has no negative.
-    fn put(self, buf: &mut [u8], at: usize) -> usize
-        requires { at + length (decimal (number self)) < 2 ^ 64 }
-        ensures { Put buf.old at (decimal (number self)) buf.new result };
+    fn put(self, to: &mut Writer<'_>)
+        requires { to.old.at + length (decimal (number self)) < 2 ^ 64 }
+        ensures { Wrote to.old (decimal (number self)) to.new };
 }
 
 impl Number for u64 {
     ghost number = { pos };
 
-    fn put(self, buf: &mut [u8], at: usize) -> usize {
-        put_digits(buf, at, self)
+    fn put(self, to: &mut Writer<'_>) {
+        to.digits(self);
     }
 }
 
 impl Number for i64 {
     ghost number = { λ z. z };
 
-    fn put(self, buf: &mut [u8], at: usize) -> usize {
+    fn put(self, to: &mut Writer<'_>) {
         if self < 0 {
-            store(buf, at, 45);
-            put_digits(buf, at + 1, short_of_minus_one(self) + 1)
+            to.byte(45);
+            to.digits(short_of_minus_one(self) + 1);
         } else {
-            put_digits(buf, at, self as u64)
+            to.digits(self as u64);
         }
     }
-}
-
-// Writes a line from `at`: the key, which ends with `=`, the number and byte 10. Gives the place after it.
-// Ruled out: a line without its byte 10; byte 10 one place further on; the minus before the key.
-pub fn put_line<N: Number>(buf: &mut [u8], at: usize, key: &[u8], n: N) -> usize
-    requires { at + length (line_of key.now (N.number n)) < 2 ^ 64 }
-    ensures { Put buf.old at (line_of key.now (N.number n)) buf.new result }
-{
-    let p = put_bytes(buf, at, key);
-    let q = n.put(buf, p);
-    let stop = q + 1;
-    store(buf, q, 10);
-    stop
 }

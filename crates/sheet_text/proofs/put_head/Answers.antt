@@ -4,92 +4,91 @@ use Rattle.sheet_text.specs.Sheet.{schema, values_of}
 use Rattle.sheet_text.proofs.Steps.{put_room, put_step, put_none}
 use Rattle.sheet_text.proofs.put_head.Goals as goal
 
-pub put_line-p1-requires : goal.put_line-p1-requires
+pub line-requires : goal.line-requires
 unfolding schema values_of
-put_line-p1-requires c =
-    let f0 = put_none c.args.f c.args.buf.now in
-    put_room c.args.f c.requires 0 (omega arith) f0
+line-requires c =
+    let f0 = put_none c.args.f c.args.to.now in
+    put_room c.args.f c.requires.1 0 (omega arith) f0 c.requires.0
 
-pub put_line-p2-requires : goal.put_line-p2-requires
+pub line-requires-2 : goal.line-requires-2
 unfolding schema values_of
-put_line-p2-requires c =
-    let f0 = put_none c.args.f c.args.buf.now in
-    let f1 = put_step c.args.f c.requires 0 (omega arith) f0 c.put_line-p1.ensures in
-    put_room c.args.f c.requires 1 (omega arith) f1
+line-requires-2 c =
+    let f0 = put_none c.args.f c.args.to.now in
+    let f1 = put_step c.args.f c.requires.1 0 (omega arith) f0 c.line.ensures in
+    put_room c.args.f c.requires.1 1 (omega arith) f1 c.requires.0
 
-pub put_line-p3-requires : goal.put_line-p3-requires
+pub line-requires-3 : goal.line-requires-3
 unfolding schema values_of
-put_line-p3-requires c =
-    let f0 = put_none c.args.f c.args.buf.now in
-    let f1 = put_step c.args.f c.requires 0 (omega arith) f0 c.put_line-p1.ensures in
-    let f2 = put_step c.args.f c.requires 1 (omega arith) f1 c.put_line-p2.ensures in
-    put_room c.args.f c.requires 2 (omega arith) f2
+line-requires-3 c =
+    let f0 = put_none c.args.f c.args.to.now in
+    let f1 = put_step c.args.f c.requires.1 0 (omega arith) f0 c.line.ensures in
+    let f2 = put_step c.args.f c.requires.1 1 (omega arith) f1 c.line-2.ensures in
+    put_room c.args.f c.requires.1 2 (omega arith) f2 c.requires.0
 
-pub put_line-p4-requires : goal.put_line-p4-requires
+pub line-requires-4 : goal.line-requires-4
 unfolding schema values_of
-put_line-p4-requires c =
-    let f0 = put_none c.args.f c.args.buf.now in
-    let f1 = put_step c.args.f c.requires 0 (omega arith) f0 c.put_line-p1.ensures in
-    let f2 = put_step c.args.f c.requires 1 (omega arith) f1 c.put_line-p2.ensures in
-    let f3 = put_step c.args.f c.requires 2 (omega arith) f2 c.put_line-p3.ensures in
-    put_room c.args.f c.requires 3 (omega arith) f3
+line-requires-4 c =
+    let f0 = put_none c.args.f c.args.to.now in
+    let f1 = put_step c.args.f c.requires.1 0 (omega arith) f0 c.line.ensures in
+    let f2 = put_step c.args.f c.requires.1 1 (omega arith) f1 c.line-2.ensures in
+    let f3 = put_step c.args.f c.requires.1 2 (omega arith) f2 c.line-3.ensures in
+    put_room c.args.f c.requires.1 3 (omega arith) f3 c.requires.0
 
-pub put_line-p5-requires : goal.put_line-p5-requires
+pub line-requires-5 : goal.line-requires-5
 unfolding schema values_of
-put_line-p5-requires c =
-    let f0 = put_none c.args.f c.args.buf.now in
-    let f1 = put_step c.args.f c.requires 0 (omega arith) f0 c.put_line-p1.ensures in
-    let f2 = put_step c.args.f c.requires 1 (omega arith) f1 c.put_line-p2.ensures in
-    let f3 = put_step c.args.f c.requires 2 (omega arith) f2 c.put_line-p3.ensures in
-    let f4 = put_step c.args.f c.requires 3 (omega arith) f3 c.put_line-p4.ensures in
-    put_room c.args.f c.requires 4 (omega arith) f4
+line-requires-5 c =
+    let f0 = put_none c.args.f c.args.to.now in
+    let f1 = put_step c.args.f c.requires.1 0 (omega arith) f0 c.line.ensures in
+    let f2 = put_step c.args.f c.requires.1 1 (omega arith) f1 c.line-2.ensures in
+    let f3 = put_step c.args.f c.requires.1 2 (omega arith) f2 c.line-3.ensures in
+    let f4 = put_step c.args.f c.requires.1 3 (omega arith) f3 c.line-4.ensures in
+    put_room c.args.f c.requires.1 4 (omega arith) f4 c.requires.0
 
-pub put_line-p6-requires : goal.put_line-p6-requires
+pub line-requires-6 : goal.line-requires-6
 unfolding schema values_of
-put_line-p6-requires c =
-    let f0 = put_none c.args.f c.args.buf.now in
-    let f1 = put_step c.args.f c.requires 0 (omega arith) f0 c.put_line-p1.ensures in
-    let f2 = put_step c.args.f c.requires 1 (omega arith) f1 c.put_line-p2.ensures in
-    let f3 = put_step c.args.f c.requires 2 (omega arith) f2 c.put_line-p3.ensures in
-    let f4 = put_step c.args.f c.requires 3 (omega arith) f3 c.put_line-p4.ensures in
-    let f5 = put_step c.args.f c.requires 4 (omega arith) f4 c.put_line-p5.ensures in
-    put_room c.args.f c.requires 5 (omega arith) f5
+line-requires-6 c =
+    let f0 = put_none c.args.f c.args.to.now in
+    let f1 = put_step c.args.f c.requires.1 0 (omega arith) f0 c.line.ensures in
+    let f2 = put_step c.args.f c.requires.1 1 (omega arith) f1 c.line-2.ensures in
+    let f3 = put_step c.args.f c.requires.1 2 (omega arith) f2 c.line-3.ensures in
+    let f4 = put_step c.args.f c.requires.1 3 (omega arith) f3 c.line-4.ensures in
+    let f5 = put_step c.args.f c.requires.1 4 (omega arith) f4 c.line-5.ensures in
+    put_room c.args.f c.requires.1 5 (omega arith) f5 c.requires.0
 
-pub put_line-p7-requires : goal.put_line-p7-requires
+pub line-requires-7 : goal.line-requires-7
 unfolding schema values_of
-put_line-p7-requires c =
-    let f0 = put_none c.args.f c.args.buf.now in
-    let f1 = put_step c.args.f c.requires 0 (omega arith) f0 c.put_line-p1.ensures in
-    let f2 = put_step c.args.f c.requires 1 (omega arith) f1 c.put_line-p2.ensures in
-    let f3 = put_step c.args.f c.requires 2 (omega arith) f2 c.put_line-p3.ensures in
-    let f4 = put_step c.args.f c.requires 3 (omega arith) f3 c.put_line-p4.ensures in
-    let f5 = put_step c.args.f c.requires 4 (omega arith) f4 c.put_line-p5.ensures in
-    let f6 = put_step c.args.f c.requires 5 (omega arith) f5 c.put_line-p6.ensures in
-    put_room c.args.f c.requires 6 (omega arith) f6
+line-requires-7 c =
+    let f0 = put_none c.args.f c.args.to.now in
+    let f1 = put_step c.args.f c.requires.1 0 (omega arith) f0 c.line.ensures in
+    let f2 = put_step c.args.f c.requires.1 1 (omega arith) f1 c.line-2.ensures in
+    let f3 = put_step c.args.f c.requires.1 2 (omega arith) f2 c.line-3.ensures in
+    let f4 = put_step c.args.f c.requires.1 3 (omega arith) f3 c.line-4.ensures in
+    let f5 = put_step c.args.f c.requires.1 4 (omega arith) f4 c.line-5.ensures in
+    let f6 = put_step c.args.f c.requires.1 5 (omega arith) f5 c.line-6.ensures in
+    put_room c.args.f c.requires.1 6 (omega arith) f6 c.requires.0
 
-pub put_line-requires : goal.put_line-requires
+pub line-requires-8 : goal.line-requires-8
 unfolding schema values_of
-put_line-requires c =
-    let f0 = put_none c.args.f c.args.buf.now in
-    let f1 = put_step c.args.f c.requires 0 (omega arith) f0 c.put_line-p1.ensures in
-    let f2 = put_step c.args.f c.requires 1 (omega arith) f1 c.put_line-p2.ensures in
-    let f3 = put_step c.args.f c.requires 2 (omega arith) f2 c.put_line-p3.ensures in
-    let f4 = put_step c.args.f c.requires 3 (omega arith) f3 c.put_line-p4.ensures in
-    let f5 = put_step c.args.f c.requires 4 (omega arith) f4 c.put_line-p5.ensures in
-    let f6 = put_step c.args.f c.requires 5 (omega arith) f5 c.put_line-p6.ensures in
-    let f7 = put_step c.args.f c.requires 6 (omega arith) f6 c.put_line-p7.ensures in
-    put_room c.args.f c.requires 7 (omega arith) f7
+line-requires-8 c =
+    let f0 = put_none c.args.f c.args.to.now in
+    let f1 = put_step c.args.f c.requires.1 0 (omega arith) f0 c.line.ensures in
+    let f2 = put_step c.args.f c.requires.1 1 (omega arith) f1 c.line-2.ensures in
+    let f3 = put_step c.args.f c.requires.1 2 (omega arith) f2 c.line-3.ensures in
+    let f4 = put_step c.args.f c.requires.1 3 (omega arith) f3 c.line-4.ensures in
+    let f5 = put_step c.args.f c.requires.1 4 (omega arith) f4 c.line-5.ensures in
+    let f6 = put_step c.args.f c.requires.1 5 (omega arith) f5 c.line-6.ensures in
+    let f7 = put_step c.args.f c.requires.1 6 (omega arith) f6 c.line-7.ensures in
+    put_room c.args.f c.requires.1 7 (omega arith) f7 c.requires.0
 
 pub returns : goal.returns
 unfolding schema values_of
 returns c =
-    let f0 = put_none c.args.f c.args.buf.now in
-    let f1 = put_step c.args.f c.requires 0 (omega arith) f0 c.put_line-p1.ensures in
-    let f2 = put_step c.args.f c.requires 1 (omega arith) f1 c.put_line-p2.ensures in
-    let f3 = put_step c.args.f c.requires 2 (omega arith) f2 c.put_line-p3.ensures in
-    let f4 = put_step c.args.f c.requires 3 (omega arith) f3 c.put_line-p4.ensures in
-    let f5 = put_step c.args.f c.requires 4 (omega arith) f4 c.put_line-p5.ensures in
-    let f6 = put_step c.args.f c.requires 5 (omega arith) f5 c.put_line-p6.ensures in
-    let f7 = put_step c.args.f c.requires 6 (omega arith) f6 c.put_line-p7.ensures in
-    let f8 = put_step c.args.f c.requires 7 (omega arith) f7 c.put_line.ensures in
-    f8
+    let f0 = put_none c.args.f c.args.to.now in
+    let f1 = put_step c.args.f c.requires.1 0 (omega arith) f0 c.line.ensures in
+    let f2 = put_step c.args.f c.requires.1 1 (omega arith) f1 c.line-2.ensures in
+    let f3 = put_step c.args.f c.requires.1 2 (omega arith) f2 c.line-3.ensures in
+    let f4 = put_step c.args.f c.requires.1 3 (omega arith) f3 c.line-4.ensures in
+    let f5 = put_step c.args.f c.requires.1 4 (omega arith) f4 c.line-5.ensures in
+    let f6 = put_step c.args.f c.requires.1 5 (omega arith) f5 c.line-6.ensures in
+    let f7 = put_step c.args.f c.requires.1 6 (omega arith) f6 c.line-7.ensures in
+    put_step c.args.f c.requires.1 7 (omega arith) f7 c.line-8.ensures
