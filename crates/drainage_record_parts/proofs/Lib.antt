@@ -3,3 +3,4 @@ pub mod OneInstrument
 pub mod OneDevice
 pub mod DevicesLoop
 pub mod Settled
+pub mod Lent

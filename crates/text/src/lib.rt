@@ -15,7 +15,7 @@ pub struct Wrong {
     pub place: usize,
 }
 
-// -1 - m.
+// -1 - m: the least number has no negative of its own width, and the library no subtraction that takes it.
 fn minus_one_less(m: u64) -> i64
     requires { m < 2 ^ 63 }
     ensures { result ≡ negsuc m }
@@ -230,6 +230,7 @@ impl Bounds for Signed {
 
     ghost some = { λ r t start end a. (pos 0, Prim.search rules) };
 
+    #[inline]
     fn read(self, t: &[u8], start: usize, end: u8) -> Result<(i64, usize), Wrong> {
         read_signed(t, start, self.below, self.most, end)
     }
@@ -237,6 +238,7 @@ impl Bounds for Signed {
 
 // Reads a line: the key, which ends with `=`, a number of the range and byte 10. Gives the number and the place after the line.
 // Ruled out: a wrong key refused at the line's first byte; `tonnes=-` refused at the minus rather than behind it.
+#[inline]
 pub fn read_line<R: Bounds>(
     t: &[u8],
     start: usize,
