@@ -15,7 +15,6 @@ use Rattle.text.specs.Answer.{Leads}
 use Rattle.columns.specs.Series.{Room, series_of, series_take, checks_take, fuel_take}
 use Rattle.columns.proofs.Laws.{each_as_long}
 use Rattle.refusals.specs.declared.Refusal.{Refusal}
-use Rattle.refusals.specs.declared.Told.{Told}
 use Rattle.refusals.specs.Table.{told_of, told_by}
 use Rattle.drainage_judge.specs.Call.{Call}
 use Rattle.drainage_judge.specs.Order.{judged}

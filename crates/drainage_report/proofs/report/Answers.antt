@@ -25,7 +25,7 @@ returns c =
       results = rows_of a.outcome.now a.flow_used.now a.content_used.now;
     } in
     elim c.match-read.branch [
-      in-Ok w ↦
+      | in-Ok w ↦
           reported_record _ lent _ _ _ _ c.read-read.result _ _ _ _ _ w.in-Ok.is c.read-read.ensures.right w.answer-is
           (λ i. rows_of (w.outcome-is i) (w.flow_used-is i) (w.content_used-is i)) w.quantified-answer.ensures c.put_answer.ensures
       | in-Err w ↦
