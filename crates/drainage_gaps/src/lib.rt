@@ -20,7 +20,8 @@ const LONGEST_90: usize = 95;
 
 const LONGEST_95: usize = 672;
 
-// What is taken of the windows' values: the mean, or the lower limit for z2 in hundredths.
+// What is taken of the windows' values: the mean, or the lower limit for z2 in hundredths. No Option: none would not say that it is the
+// mean.
 #[derive(Clone, Copy)]
 pub enum Rule {
     Mean,

@@ -91,7 +91,7 @@ impl Tally {
         requires { Sized self × (z ≤ z95) }
         ensures { result ≡ limit_of self z }
     {
-        // low meets the condition or is 0, high does not meet it
+        // low meets the condition or is 0, high does not meet it; halving counts no index, so it is no `for`
         let mut low = 0;
         let mut high = self.mean() + 1;
         while low + 1 < high {

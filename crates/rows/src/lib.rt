@@ -4,7 +4,8 @@
 ghost use Rattle.std.specs.Prelude.{ℕ, ◌≤◌, ◌≡◌, not, eqb, length, get_or};
 ghost use Rattle.rows.specs.Rows.{FirstOf};
 
-// The first index at which two lists of lengths differ, or their common length. Ruled out: a later one; the first skipped.
+// The first index at which two lists of lengths differ, or their common length, as `FirstOf` has it. Ruled out: a later one; the first
+// skipped.
 pub fn first_difference(have: &[usize], want: &[usize]) -> usize
     requires { length have.now ≡ length want.now }
     ensures { FirstOf (length have.now)
