@@ -40,8 +40,8 @@ fn lacks(g: Gas) -> bool
     g.flow == MISSING || g.content == MISSING || protocol::temp_missing(g.temp) || g.press == 0
 }
 
-// One interval. Status and outcome are numbers, as in the rows that C lends and reads, and `outcome_of` speaks of every number. Ruled out: the inlet's flow used for the exhaust; an exhaust that is missing taken for none; as much out as in
-// excluded.
+// One interval. Status and outcome are numbers, as in the rows that C lends and reads, and `outcome_of` speaks of every number. Ruled
+// out: the inlet's flow used for the exhaust; an exhaust that is missing taken for none; as much out as in excluded.
 #[tactic(auto, unfolding(crate::specs::Outcomes::entry_of, crate::specs::Outcomes::outcome_of))]
 pub fn settle(inlet: Gas, exhaust: Gas, status: u8) -> Entry
     requires { (gas_right (gas_in inlet) ≡ true) × (gas_right (gas_in exhaust) ≡ true) }
