@@ -30,5 +30,5 @@ line-requires-3 c =
 pub returns : goal.returns
 returns c =
     let done = refusal_leads c.args.told _ _ _ _ _ _ _ c.line.ensures.put c.line-2.ensures.put
-        c.line-3.ensures.put (omega arith) (omega arith) (omega arith) c.requires in
+    c.line-3.ensures.put (omega arith) (omega arith) (omega arith) c.requires in
     search (rules, done, c.line-3.ensures.same ∙ c.line-2.ensures.same ∙ c.line.ensures.same)
