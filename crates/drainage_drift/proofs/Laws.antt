@@ -11,10 +11,9 @@ use native.Mathlib.Nat.{le_of_lt, lt_of_not-le, max-zero, le-max_left, le-max_ri
 use native.Mathlib.Decide.{dec_le}
 use native.Mathlib.Omega.{arith}
 use lib.ListN.{length, get_or}
-use lib.Seq.{ext_get_or}
 use borrow.Author.Tests.{eqb-true, eqb-false, eq-eqb, ne_eqb}
-use Rattle.rows.specs.Rows.{pick, build, cut}
-use Rattle.rows.proofs.Laws.{length-build, get_or-build, length-cut, get_or-cut, get_or_inside}
+use Rattle.rows.specs.Rows.{pick}
+use Rattle.rows.proofs.Laws.{get_or_inside}
 use Rattle.protocol.specs.Ranges.{mark, missing}
 use Rattle.drainage_drift.specs.Drift.{Instrument, passes, together, excess, max_to, stretch_drift, corrected, kept_or, corrected_at}
 
@@ -43,16 +42,8 @@ kept_none reading i = go (missing (get_or reading i mark)) refl
     go false e = kept_measured 0 reading i e ∙ corrected_none (get_or reading i mark)
 
 -- as the code copies it
-pub kept_cut : (reading : List ℕ) (a e : ℕ) → a ≤ e → e ≤ length reading → cut reading a e ≡ build (e - a) (λ k. kept_or 0 reading (a + k))
-kept_cut reading a e l h =
-    ext_get_or mark (cut reading a e) (build (e - a) (λ k. kept_or 0 reading (a + k)))
-    (long ∙ sym (length-build (e - a) (λ k. kept_or 0 reading (a + k))))
-    (λ i m.
-    let n : i < e - a = subst (λ (x : ℕ). i < x) long m in
-    get_or-cut reading a e i mark n ∙ sym (kept_none reading (a + i)) ∙ sym (get_or-build (e - a) (λ k. kept_or 0 reading (a + k)) i mark n))
-  where
-    long : length (cut reading a e) ≡ e - a
-    long = length-cut reading a e l h
+pub kept_copied : (reading : List ℕ) (i : ℕ) → i < length reading → get_or reading i 0 ≡ kept_or 0 reading i
+kept_copied reading i h = get_or_inside reading i 0 mark h ∙ sym (kept_none reading i)
 
 -- the two cases as the code meets them: its reads have 0 outside the row, and it divides by 10,000 and the drift
 module _ (e : ℕ) (reading : List ℕ) (i : ℕ) (h : i < length reading) where

@@ -40,7 +40,10 @@ fn stretch(reading: &[u16], start: usize, end: usize, divisor: u64, used: &mut [
     ensures { Continued start end (kept_or (divisor - full) reading.now) used.old used.new }
 {
     if divisor == FULL {
-        used[start..end].copy_from_slice(&reading[start..end]);
+        // No `copy_from_slice`: it asks the host for memmove, and the archive for memset only (include/cmm.h).
+        for k in start..end {
+            used[k] = reading[k];
+        }
         return;
     }
     for i in start..end {
