@@ -15,14 +15,6 @@ pub struct Wrong {
     pub place: usize,
 }
 
-// -1 - m: the least number has no negative of its own width, and the library no subtraction that takes it.
-fn minus_one_less(m: u64) -> i64
-    requires { m < 2 ^ 63 }
-    ensures { result ≡ negsuc m }
-{
-    -1 - (m as i64)
-}
-
 // How many bytes of the key stand in t from `start`.
 // Ruled out: 0 for a key that is wrong in its last byte only; the whole key where the text stops inside it.
 pub fn matched(t: &[u8], start: usize, key: &[u8]) -> usize
@@ -79,7 +71,7 @@ fn word(t: &[u8], p: usize) -> u64
     requires { p + 4 ≤ length t.now }
     ensures { result ≡ word_at t.now p }
 {
-    t[p] as u64 + 256 * t[p + 1] as u64 + 65536 * t[p + 2] as u64 + 16777216 * t[p + 3] as u64
+    u32::from_le_bytes([t[p], t[p + 1], t[p + 2], t[p + 3]]) as u64
 }
 
 // Whether 10 v + d, which may be too large for 64 bits, is above `most`. Ruled out: the border itself; a sum that wraps.
@@ -152,7 +144,7 @@ pub fn read_signed(
 {
     if start < t.len() && t[start] == 45 {
         let (v, stop) = read_natural(t, start + 1, 1, below, end)?;
-        return Ok((minus_one_less(v - 1), stop));
+        return Ok((0i64.saturating_sub_unsigned(v), stop));
     }
     let (v, stop) = read_natural(t, start, 0, most, end)?;
     Ok((v as i64, stop))

@@ -2,8 +2,7 @@
 // crates/text, whose readers read them back.
 #![tactic(auto)]
 
-ghost use Rattle.std.specs.Prelude.{ℤ, ◌+◌, ◌^◌, ◌<◌, ◌≡◌, [], ◌∷◌, length, false, pos, negsuc};
-ghost use Rattle.std.specs.Int.Signed.{non_neg};
+ghost use Rattle.std.specs.Prelude.{ℤ, ◌+◌, ◌^◌, ◌<◌, ◌≡◌, [], ◌∷◌, length, pos};
 ghost use Rattle.text.specs.Decimal.{dec, decimal};
 ghost use Rattle.text.specs.Line.{line_of};
 ghost use Rattle.writing.specs.Wrote.{Wrote};
@@ -62,14 +61,6 @@ impl Writer<'_> {
     }
 }
 
-// How far a negative number lies below -1: the least one has no negative of its own width.
-fn short_of_minus_one(z: i64) -> u64
-    requires { non_neg z ≡ false }
-    ensures { z ≡ negsuc result }
-{
-    (-1 - z) as u64
-}
-
 // A number that is written in decimal.
 pub trait Number: Copy {
     ghost number: { Self → ℤ };
@@ -95,7 +86,7 @@ impl Number for i64 {
     fn put(self, to: &mut Writer<'_>) {
         if self < 0 {
             to.byte(45);
-            to.digits(short_of_minus_one(self) + 1);
+            to.digits(self.unsigned_abs());
         } else {
             to.digits(self as u64);
         }
