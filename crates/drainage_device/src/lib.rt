@@ -8,7 +8,7 @@ ghost use Rattle.columns.specs.Series.{ChecksLong};
 ghost use Rattle.drainage_drift.specs.Drift.{Ordered, corrected_at};
 ghost use Rattle.drainage_drift.specs.Lent.{instrument_in};
 ghost use Rattle.drainage_gaps.specs.Private.{filled_at};
-ghost use Rattle.drainage_outcomes.specs.Rows.{RowsLong, rows_of};
+ghost use Rattle.drainage_outcomes.specs.Rows.{RowsLong, rows_in, rows_left};
 ghost use Rattle.drainage_device.specs.Device.{instrument_of, Right, Filled, Low};
 ghost use Rattle.drainage_device.specs.Lent.{records_in};
 
@@ -59,17 +59,15 @@ fn fill_series(reading: &[u16], instrument: &Instrument<'_>, used: &mut [u16])
 }
 
 // The three rows of one device, and its account. Ruled out: a row left as it was; CH4's checks used for flow.
-// The rows are three parameters: of parts that are lent inside a `Rows` the check knows nothing after the call.
-pub fn fill_row(
-    records: &Records<'_>,
-    outcome: &mut [u8],
-    flow: &mut [u16],
-    content: &mut [u16],
-) -> Account
-    requires { Right (records_in records.now)
-        × RowsLong (rows_of outcome.old flow.old content.old) (length records.now.series.flow.now) }
-    ensures { Filled (records_in records.now) (rows_of outcome.new flow.new content.new) result }
+pub fn fill_row(records: &Records<'_>, rows: Rows<'_>) -> Account
+    requires { Right (records_in records.now) × RowsLong (rows_in rows) (length records.now.series.flow.now) }
+    ensures { Filled (records_in records.now) (rows_left rows.exit) result }
 {
+    let Rows {
+        outcome,
+        flow,
+        content,
+    } = rows;
     fill_series(records.series.flow, &records.instrument(0), flow);
     fill_series(records.series.content, &records.instrument(1), content);
     let Sums { outcomes, methane } = drainage_outcomes::finish(

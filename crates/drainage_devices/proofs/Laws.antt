@@ -1,13 +1,13 @@
 -- Laws of each device's part of the rows, and of its account.
 -- Assumes nothing.
-use Prim.Native.Nat.{ℕ, ◌+◌, ◌*◌, ◌≤◌, ◌<◌}
+use Prim.Native.Nat.{ℕ, ◌+◌, ◌-◌, ◌*◌, ◌≤◌, ◌<◌}
 use mathlib.Core.Path.{◌≡◌, sym, ap, ◌∙◌, subst}
-use mathlib.Core.List.{List}
+use mathlib.Core.List.{List, ◌++◌}
 use native.Mathlib.Nat.{le_trans}
-use lib.ListN.{length}
+use native.Mathlib.Omega.{arith}
+use lib.ListN.{length, take, drop}
 use Rattle.rows.specs.Rows.{build, count_of, put}
 use Rattle.rows.proofs.Laws.{length-build}
-use Rattle.columns.specs.Series.{row_of}
 use Rattle.columns.proofs.Laws as Series
 use Rattle.columns.proofs.Laws.{part_end, scaled}
 use Rattle.balance.specs.Balance.{device_most}
@@ -74,32 +74,54 @@ module _ (l : Lent) (devices : ℕ) (x : Sound l devices) where
 
 -- ---- what is lent on to one device's function, and what it leaves in the whole rows
 
--- device d's part of each row, and rows with that part in place of their own
-abbrev pub rows_part : Rows → ℕ → ℕ → Rows
-rows_part s n d = rows_of (row_of s.outcome n d) (row_of s.flow n d) (row_of s.content n d)
+-- rows that are parted at device d's row: what stands before it, the row itself and what follows it
+abbrev pub rows_before : Rows → ℕ → ℕ → Rows
+rows_before s n d = rows_of (take (d * n) s.outcome) (take (d * n) s.flow) (take (d * n) s.content)
 
-abbrev pub rows_put : Rows → ℕ → ℕ → Rows → Rows
-rows_put s n d part =
-    rows_of (put s.outcome (d * n) (d * n + n) part.outcome) (put s.flow (d * n) (d * n + n) part.flow) (put s.content (d * n) (d * n + n) part.content)
+abbrev pub rows_part : Rows → ℕ → ℕ → Rows
+rows_part s n d = rows_of (take n (drop (d * n) s.outcome)) (take n (drop (d * n) s.flow)) (take n (drop (d * n) s.content))
+
+abbrev pub rows_behind : Rows → ℕ → ℕ → Rows
+rows_behind s n d = rows_of (drop n (drop (d * n) s.outcome)) (drop n (drop (d * n) s.flow)) (drop n (drop (d * n) s.content))
+
+-- the three joined again
+abbrev pub rows_joined : Rows → Rows → Rows → Rows
+rows_joined x part y =
+    rows_of (x.outcome ++ (part.outcome ++ y.outcome)) (x.flow ++ (part.flow ++ y.flow)) (x.content ++ (part.content ++ y.content))
 
 -- r is device d's records, as the code puts them together
 module _ (l : Lent) (devices : ℕ) (x : Sound l devices) (d : ℕ) (h : d < devices) (s : Rows) (r : Records) (e : r ≡ records_of l d) where
-  pub parts_right : RowsLong s (devices * l.intervals) → Right r × RowsLong (rows_part s l.intervals d) (intervals_of r)
-  parts_right p = rw e (x.right d h, record { outcome = part s.outcome p.outcome; flow = part s.flow p.flow; content = part s.content p.content })
-    where
-      part : (xs : List ℕ) → length xs ≡ devices * l.intervals → length (row_of xs l.intervals d) ≡ intervals_of (records_of l d)
-      part xs q = Series.row_long xs devices l.intervals d h q ∙ sym (row_long l devices x d h)
+  width : d * l.intervals + l.intervals - d * l.intervals ≡ l.intervals
+  width = omega arith
 
-  pub rows_written : (part : Rows) (a : Account) → Filled r part a → Written l d s (rows_put s l.intervals d part) a
+  pub parts_right : (part : Rows) → part ≡ rows_part s l.intervals d → RowsLong s (devices * l.intervals)
+      → Right r × RowsLong part (intervals_of r)
+  parts_right part q p =
+      rw (e, q) (x.right d h, record { outcome = long s.outcome p.outcome; flow = long s.flow p.flow; content = long s.content p.content })
+    where
+      long : (xs : List ℕ) → length xs ≡ devices * l.intervals
+          → length (take l.intervals (drop (d * l.intervals) xs)) ≡ intervals_of (records_of l d)
+      long xs q =
+          ap (λ (m : ℕ). length (take m (drop (d * l.intervals) xs))) (sym width) ∙ Series.row_long xs devices l.intervals d h q
+          ∙ sym (row_long l devices x d h)
+
+  pub rows_written : (before part behind : Rows) (a : Account) → before ≡ rows_before s l.intervals d → behind ≡ rows_behind s l.intervals d
+      → Filled r part a → Written l d s (rows_joined before part behind) a
   unfolding outcome_part flow_part content_part
-  rows_written part a y =
+  rows_written before part behind a eb ea y =
       let z : Filled (records_of l d) part a = subst (λ (k : Records). Filled k part a) e y in
       record {
-        outcome_built = ap (put s.outcome (d * l.intervals) (d * l.intervals + l.intervals)) (z.outcome_built ∙ whole (outcome_at (records_of l d)));
-        flow_built = ap (put s.flow (d * l.intervals) (d * l.intervals + l.intervals)) (z.flow_built ∙ whole (flow_used_at (records_of l d)));
-        content_built = ap (put s.content (d * l.intervals) (d * l.intervals + l.intervals)) (z.content_built ∙ whole (content_used_at (records_of l d)));
+        outcome_built = joined s.outcome (λ i. (eb i).outcome) (z.outcome_built ∙ whole (outcome_at (records_of l d))) (λ i. (ea i).outcome);
+        flow_built = joined s.flow (λ i. (eb i).flow) (z.flow_built ∙ whole (flow_used_at (records_of l d))) (λ i. (ea i).flow);
+        content_built =
+            joined s.content (λ i. (eb i).content) (z.content_built ∙ whole (content_used_at (records_of l d))) (λ i. (ea i).content);
         account = z.account;
       }
     where
       whole : (g : ℕ → ℕ) → build (intervals_of (records_of l d)) g ≡ build l.intervals g
       whole g = ap (λ (m : ℕ). build m g) (row_long l devices x d h)
+
+      joined : (xs : List ℕ) {p q ys t : List ℕ} → p ≡ take (d * l.intervals) xs → q ≡ ys → t ≡ drop l.intervals (drop (d * l.intervals) xs)
+          → p ++ (q ++ t) ≡ put xs (d * l.intervals) (d * l.intervals + l.intervals) ys
+      joined xs {p} {q} {ys} {t} ep eq et =
+          (λ i. ep i ++ (eq i ++ et i)) ∙ ap (λ (m : ℕ). take (d * l.intervals) xs ++ (ys ++ drop m (drop (d * l.intervals) xs))) (sym width)

@@ -26,7 +26,8 @@ pub struct Lent<'a> {
 
 // Device d's part of each row is lent on to the function that fills one device's row. Ruled out: a part that starts in the
 // neighbour's row; a neighbour's entry changed.
-// The rows are three parameters, as `drainage_device::fill_row` takes them.
+// The rows are three parameters: the check does not cover `split_at_mut` of what a `Rows` lends, and of a part by its range,
+// `&mut outcome[a..e]` in a `Rows`, it knows only the length after the call.
 fn fill_device(
     lent: &Lent<'_>,
     d: usize,
@@ -39,17 +40,25 @@ fn fill_device(
         × RowsLong (rows_of outcome.old flow.old content.old) (devices * lent.now.intervals) }
     ensures { Written (lent_in lent.now) d (rows_of outcome.old flow.old content.old) (rows_of outcome.new flow.new content.new) result }
 {
-    let a = d * lent.intervals;
-    let e = a + lent.intervals;
+    let n = lent.intervals;
+    let a = d * n;
+    let (_, outcome) = outcome.split_at_mut(a);
+    let (outcome, _) = outcome.split_at_mut(n);
+    let (_, flow) = flow.split_at_mut(a);
+    let (flow, _) = flow.split_at_mut(n);
+    let (_, content) = content.split_at_mut(a);
+    let (content, _) = content.split_at_mut(n);
     drainage_device::fill_row(
         &Records {
             kind: lent.kinds[d],
-            series: lent.series.part(a, e),
+            series: lent.series.part(a, a + n),
             checks: lent.checks.part(d),
         },
-        &mut outcome[a..e],
-        &mut flow[a..e],
-        &mut content[a..e],
+        Rows {
+            outcome,
+            flow,
+            content,
+        },
     )
 }
 

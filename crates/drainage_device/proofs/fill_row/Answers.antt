@@ -28,7 +28,7 @@ fill_series-requires-2 c =
 pub finish-methane-requires : goal.finish-methane-requires
 finish-methane-requires c =
     let r : Records = records_in c.args.records.now in
-    let b : Rows = rows_of c.args.outcome.now c.fill_series.new.used c.fill_series-2.new.used in
+    let b : Rows = rows_of c.args.rows.outcome.now c.fill_series.new.used c.fill_series-2.new.used in
     let y : Filling r b =
     record {
       flow_filled = rw c.instrument.ensures at c.fill_series.ensures;
@@ -39,7 +39,7 @@ finish-methane-requires c =
 pub destroyed-requires : goal.destroyed-requires
 destroyed-requires c =
     let r : Records = records_in c.args.records.now in
-    let b : Rows = rows_of c.args.outcome.now c.fill_series.new.used c.fill_series-2.new.used in
+    let b : Rows = rows_of c.args.rows.outcome.now c.fill_series.new.used c.fill_series-2.new.used in
     let y : Filling r b =
     record {
       flow_filled = rw c.instrument.ensures at c.fill_series.ensures;
@@ -50,7 +50,7 @@ destroyed-requires c =
 pub uncombusted-requires : goal.uncombusted-requires
 uncombusted-requires c =
     let r : Records = records_in c.args.records.now in
-    let b : Rows = rows_of c.args.outcome.now c.fill_series.new.used c.fill_series-2.new.used in
+    let b : Rows = rows_of c.args.rows.outcome.now c.fill_series.new.used c.fill_series-2.new.used in
     let y : Filling r b =
     record {
       flow_filled = rw c.instrument.ensures at c.fill_series.ensures;
@@ -61,7 +61,7 @@ uncombusted-requires c =
 pub returns : goal.returns
 returns c =
     let r : Records = records_in c.args.records.now in
-    let b : Rows = rows_of c.args.outcome.now c.fill_series.new.used c.fill_series-2.new.used in
+    let b : Rows = rows_of c.args.rows.outcome.now c.fill_series.new.used c.fill_series-2.new.used in
     let y : Filling r b =
     record {
       flow_filled = rw c.instrument.ensures at c.fill_series.ensures;
