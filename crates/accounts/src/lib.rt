@@ -19,7 +19,7 @@ use figures::Figures;
 // How many outcomes there are.
 pub const OUTCOMES: usize = 10;
 
-// How many numbers a device's account is written in, its outcomes and three sums of litres, and those of all devices.
+// How many numbers a device's account is written in, its outcomes and three sums of litres, and those of all devices: C lends one array.
 pub const ACCOUNT: usize = 13;
 
 pub const ACCOUNTS: usize = 208;

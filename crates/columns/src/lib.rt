@@ -1,5 +1,5 @@
 // What a record lends, each group as one thing: the series, the checks, the fuel lines, and the streams of ventilation air. A part of one
-// is one of the same kind.
+// is one of the same kind. None has an invariant on its lengths: a host may lend any, and refusal 3 says which is wrong.
 #![tactic(auto)]
 
 ghost use Rattle.std.specs.Prelude.{◌+◌, ◌≤◌, ◌≡◌};

@@ -62,9 +62,8 @@ fn fill_device(
     )
 }
 
-// The rows and accounts of all devices, device 0 first, and their sums. Ventilation air has this loop too: of one over a closure that
-// writes rows a proof needs more than both. Ruled out: the first device done and the rest faked; a
-// device counted twice.
+// The rows and accounts of all devices, device 0 first, and their sums. Ruled out: the first device done and the rest faked; a device
+// counted twice. Ventilation air has a loop of its own: one for both over a closure that writes rows was tried and did not prove.
 pub fn fill_rows(lent: &Lent<'_>, devices: usize, rows: Rows<'_>, accounts: &mut [u64]) -> Totals
     requires { Sound (lent_in lent.now) devices × RowsLong (rows_in rows) (devices * lent.now.intervals)
         × (length accounts.old ≡ devices_most * account_size) }

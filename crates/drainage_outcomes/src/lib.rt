@@ -58,7 +58,7 @@ pub struct Sums {
     pub methane: u64,
 }
 
-// Ruled out: outcomes 5 and 6 exchanged; a missing reading counted under status 1.
+// Status and outcome are numbers, as the rows hold them. Ruled out: outcomes 5 and 6 exchanged; a missing reading counted under status 1.
 #[tactic(auto, unfolding(crate::specs::Outcomes::outcome_of))]
 pub fn outcome(
     status: u8,

@@ -59,6 +59,7 @@ pub fn windows_whole(reading: &[u16], a: usize, e: usize, w: usize) -> bool
         return false;
     }
     let mut all = true;
+    // Labelled, so that the first missing entry ends the look over both windows.
     'look: for from in [a - w, e] {
         for k in 0..w {
             if reading[from + k] == MISSING {

@@ -6,7 +6,10 @@ ghost use Rattle.std.specs.Prelude.{◌≤◌, length, IfOk};
 use std::io;
 use std::io::{ErrorKind, Print, Read};
 
-// The program's memory is fixed: texts and rows are arrays. Longer than any record file that 2,976 entries can hold, so that its first bytes decide every longer input (`report_cut`, drainage_report/proofs/Settled.antt).
+// The program's memory is fixed: texts and rows are arrays.
+
+// Longer than any record file that 2,976 entries can hold, so that its first bytes decide every longer input (`report_cut`,
+// drainage_report/proofs/Settled.antt).
 const TEXT: usize = 217600;
 
 const ENTRIES: usize = 2976;

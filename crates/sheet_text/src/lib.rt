@@ -44,7 +44,7 @@ fn put_head(f: Figures, to: &mut Writer<'_>)
     to.line(b"uncombusted_l=", f.uncombusted_l);
 }
 
-// The sheet's lines into the buffer as far as it goes, and their length whatever the buffer's.
+// The sheet's lines into the buffer as far as it goes, and their length whatever the buffer's. No `Display`, as beside `Writer`.
 fn put_sheet(f: Figures, buf: &mut [u8]) -> usize
     ensures { Put buf.old 0 (text_of f) buf.new result × (length (text_of f) ≤ sheet_most) }
 {

@@ -1,5 +1,5 @@
-// The steps that quantifications share, each a scan for its first offender: how many intervals and devices, lengths, the mine, kinds,
-// checks and fuel lines.
+// The steps that quantifications share, each with its first offender: how many intervals and devices, lengths, the mine, kinds, checks
+// and fuel lines.
 #![tactic(auto)]
 
 ghost use Rattle.std.specs.Prelude.{◌+◌, ◌*◌, ◌<◌, ◌≡◌, ltb, length};

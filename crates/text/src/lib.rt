@@ -2,7 +2,7 @@
 // made of these parts; what a form is and what a refusal means is in specs/Form.antt. crates/writing writes them.
 #![tactic(auto)]
 
-ghost use Rattle.std.specs.Prelude.{ℕ, List, ℤ, pos, ◌+◌, ◌*◌, ◌^◌, ◌≤◌, ◌<◌, ◌≡◌, ltb, length, negsuc};
+ghost use Rattle.std.specs.Prelude.{ℕ, List, ℤ, pos, ◌+◌, ◌*◌, ◌≤◌, ◌<◌, ◌≡◌, ltb, length};
 ghost use Rattle.std.proofs.Common.{rules};
 ghost use Rattle.text.specs.Decimal.{Range, Fit, number, plain, signed};
 ghost use Rattle.text.specs.Line.{line};

@@ -16,7 +16,7 @@ pub struct Lent<'a> {
     pub air: Air<'a>,
 }
 
-// Device d's part of each row is lent on to the function that fills one device's row. Ruled out: a part that starts in the
+// Device d's part of the row is lent on to the function that fills one device's row. Ruled out: a part that starts in the
 // neighbour's row; a neighbour's entry changed.
 fn fill_device(lent: &Lent<'_>, devices: usize, d: usize, outcome: &mut [u8]) -> Account
     requires { Sound (lent_in lent.now) devices × (d < devices) × (length outcome.old ≡ devices * lent.now.intervals) }
@@ -43,7 +43,7 @@ pub fn fill_rows(
         result }
 {
     let mut t = Totals::none();
-    // Not shared with drainage gas: a closure called for each device wants a contract and a proof longer than this loop.
+    // Not shared with drainage gas: one loop for both over a closure that writes rows was tried and did not prove.
     for d in 0..devices {
         let a = fill_device(lent, devices, d, outcome);
         a.store(d, accounts);

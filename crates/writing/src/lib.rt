@@ -9,6 +9,7 @@ ghost use Rattle.writing.specs.Wrote.{Wrote};
 
 // A lent buffer and the place up to which it is written. Past the buffer's end nothing is stored and the place goes on: so one function
 // both measures (on an empty buffer) and writes.
+// No `Display`: it wants a path into std, which the library has none of, and the bytes written are what the contracts state.
 #[derive(Drop)]
 pub struct Writer<'a> {
     pub buf: &'a mut [u8],
