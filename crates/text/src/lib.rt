@@ -51,14 +51,12 @@ fn same(t: &[u8], start: usize, key: &[u8]) -> bool
     if t.len() - start < n {
         return false;
     }
-    let mut i = 0;
-    while i + 4 <= n {
-        if word(t, start + i) != word(key, i) {
+    for w in 0..n / 4 {
+        if word(t, start + 4 * w) != word(key, 4 * w) {
             return false;
         }
-        i += 4;
     }
-    for k in i..n {
+    for k in n / 4 * 4..n {
         if t[start + k] != key[k] {
             return false;
         }
