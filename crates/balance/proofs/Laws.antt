@@ -3,16 +3,16 @@
 use Prim.Native.Nat.{ℕ, zero, suc, ◌+◌, ◌-◌, ◌*◌, ◌/◌, ◌≤◌, ◌<◌, ◌^◌}
 use mathlib.Core.Path.{◌≡◌, refl, sym, ap, ap₂, ◌∙◌, subst}
 use mathlib.Core.Bool.{true, false}
-use native.Mathlib.Nat.{mul-le-mul, mul-le-mul_right, le_trans, zero-add, add-zero, div-le_self}
+use native.Mathlib.Nat.{mul-le-mul, mul-le-mul_right, add-zero}
 use native.Mathlib.Omega.{arith}
-use lib.IntN.{ℤ, pos, negsuc, ◌-ℤ◌, ◌*ℤ◌, nat_abs}
+use lib.IntN.{ℤ, pos, negsuc, sub_ℕ, ◌-ℤ◌, ◌*ℤ◌, nat_abs}
 use lib.Signed.{◌≤ℤ◌, shr_z, lt_z, non_neg}
 use lib.Dec.{T}
 use borrow.Author.Rules.{rules}
 use mir.Syntax.{w64}
 use mir.Val.{SFits, Fits, to_z, of_z}
 use mir.Facts.{to_z-of_z, to_z_pos}
-use Rattle.std.specs.Int.{int_max}
+use Rattle.std.specs.Int.{int_max, int_div_euclid}
 use Rattle.rows.specs.Rows.{sum_to}
 use Rattle.rows.proofs.Sums.{sum_to_ext, sum_to_add}
 use Rattle.protocol.specs.Kinds.{thousandths_of}
@@ -21,7 +21,7 @@ use Rattle.protocol.proofs.KindLaws.{thousandths_most}
 use Rattle.protocol.specs.Rounding.{ceil_div}
 use Rattle.balance.specs.Balance.{destroyed_of, uncombusted_of, baseline_in_mg, carbon_dioxide_mg, uncombusted_in_mg, over_devices, baseline_all}
 use Rattle.balance.specs.Balance.{carbon_dioxide_all, uncombusted_all, reduction_of, reduction_all, tonnes_of, IsTonnes, credits_of, tonne, device_most}
-use Rattle.protocol.proofs.Integers.{Is, Floor, above, below, is_self, is_pos, is_mag, is_minus, is_times, is_le, le_is, is_same, is_floor, sub_le, sub_lt}
+use Rattle.protocol.proofs.Integers.{Is, Floor, above, below, is_self, is_pos, is_mag, is_minus, is_sub, is_times, is_le, le_is, is_same, is_floor}
 use Rattle.protocol.proofs.Integers.{by_order}
 
 -- ---- litres
@@ -101,38 +101,28 @@ reduction_ext devices kind kind' q q' fuel h l =
 
 -- ---- signed
 
--- -1 - m, as the code makes a negative number
-minus_one : (m : ℕ) → negsuc 0 -ℤ pos m ≡ negsuc m
-minus_one zero = refl
-minus_one (suc m) = ap (λ (n : ℕ). negsuc (suc n)) (zero-add m)
+-- the difference of two numbers up to 2^62 is a signed number of 64 bits
+less_fits : (a b : ℕ) → a ≤ 4611686018427387904 → b ≤ 4611686018427387904 → SFits w64 (sub_ℕ a b)
+less_fits a b h k =
+    let i = (is_sub a b).is in
+    by_order a b
+    (λ l. record { sfits = let m = is_mag (sub_ℕ a b) {p = 0} {m = b - a} (record { is = omega arith }) in omega arith })
+    (λ l. record { sfits = let m = is_mag (sub_ℕ a b) {p = a - b} {m = 0} (record { is = omega arith }) in omega arith })
 
-below_zero : (n : ℕ) → n < 2 ^ 63 → negsuc 0 -ℤ to_z w64 n ≡ negsuc n
-below_zero n h = ap (λ (y : ℤ). negsuc 0 -ℤ y) (to_z_pos w64 h) ∙ minus_one n
-
--- 0 or -1 less a number up to 2^62 is a signed number of 64 bits
-pub less_fits : (z : ℤ) (n : ℕ) → above z + below z ≤ 1 → n ≤ 4611686018427387904 → SFits w64 (z -ℤ to_z w64 n)
-less_fits z n h l =
-    subst (λ (y : ℤ). SFits w64 (z -ℤ y)) (sym (to_z_pos w64 (let k : n < 2 ^ 63 = omega arith in k)))
-    (record { sfits = let m = is_mag (z -ℤ pos n) (is_minus z (pos n) (is_self z) (is_pos n)) in omega arith })
-
-pub below_back : (n : ℕ) → n ≤ 4611686018427387904 → to_z w64 (of_z w64 (negsuc 0 -ℤ to_z w64 n)) ≡ negsuc n
-below_back n h = to_z-of_z (less_fits (negsuc 0) n (omega arith) h) ∙ below_zero n (omega arith)
-
-pub quotient_most : (x k : ℕ) → x ≤ 4611686018427387904 → x / k ≤ 4611686018427387904
-quotient_most x k h = le_trans (div-le_self x k) h
-
-pub reduction_up : (a b : ℕ) → b ≤ a → pos (a - b) ≡ reduction_of a b
+-- what adds less what subtracts, in 64 bits with a sign
+pub less_back : (a b : ℕ) → a ≤ 4611686018427387904 → b ≤ 4611686018427387904 → to_z w64 (of_z w64 (to_z w64 a -ℤ to_z w64 b)) ≡ reduction_of a b
 unfolding reduction_of
-reduction_up a b h = sym (sub_le a b h)
+less_back a b h k = to_z-of_z {w = w64} (subst (λ (z : ℤ). SFits w64 z) (sym less) (less_fits a b h k)) ∙ less
+  where
+    less : to_z w64 a -ℤ to_z w64 b ≡ sub_ℕ a b
+    less =
+        ap₂ (λ (x y : ℤ). x -ℤ y) (to_z_pos w64 (let l : a < 2 ^ 63 = omega arith in l)) (to_z_pos w64 (let l : b < 2 ^ 63 = omega arith in l))
+        ∙ is_same (pos a -ℤ pos b) (sub_ℕ a b) (is_minus (pos a) (pos b) (is_pos a) (is_pos b)) (is_sub a b) (omega arith)
 
-pub reduction_down : (a b : ℕ) → a < b → negsuc (b - a - 1) ≡ reduction_of a b
-unfolding reduction_of
-reduction_down a b h = sym (sub_lt a b h ∙ ap negsuc (let e : b - suc a ≡ b - a - 1 = omega arith in e))
-
--- in wholes of one mg a number is itself
-pub by_one : (z : ℤ) → shr_z z 1 ≡ z
-by_one (pos a) = ap pos (let e : a / 1 ≡ a = omega arith in e)
-by_one (negsuc a) = ap negsuc (let e : a / 1 ≡ a = omega arith in e)
+-- the library's quotient is rounded as tonnes are
+pub quotient_down : (z : ℤ) (m : ℕ) → int_div_euclid z (pos m) ≡ shr_z z m
+quotient_down (pos a) m = refl
+quotient_down (negsuc a) m = refl
 
 -- ---- what tonnes are
 

@@ -2,7 +2,6 @@
 #![tactic(auto)]
 
 ghost use Rattle.std.specs.Prelude.{◌+◌, ◌*◌, ◌/◌, ◌≤◌, ◌<◌, ◌≡◌};
-ghost use Rattle.std.specs.Int.Signed.{shr_z};
 ghost use Rattle.protocol.specs.Numbers.{methane_mg};
 ghost use Rattle.balance.specs.Balance.{
   destroyed_of,
@@ -65,24 +64,12 @@ pub fn methane_mg(litres: u64) -> u64
 // mg in a tonne.
 pub const TONNE: u64 = 1000000000;
 
-// What adds less what subtracts, in wholes of so many mg, rounded towards minus infinity.
-fn whole(credit: u64, debit: u64, mg: u64) -> i64
-    requires { Moderate credit debit × (0 < mg) }
-    ensures { result ≡ shr_z (reduction_of credit debit) mg }
-{
-    if debit <= credit {
-        ((credit - debit) / mg) as i64
-    } else {
-        -1 - (((debit - credit - 1) / mg) as i64)
-    }
-}
-
 // What adds less what subtracts. Ruled out: the two exchanged; 0 where the reduction is negative.
 pub fn reduction(credit: u64, debit: u64) -> i64
     requires { Moderate credit debit }
     ensures { result ≡ reduction_of credit debit }
 {
-    whole(credit, debit, 1)
+    credit as i64 - debit as i64
 }
 
 // Ruled out: a negative reduction rounded towards zero; rounded to the nearest tonne.
@@ -90,7 +77,7 @@ pub fn tonnes(credit: u64, debit: u64) -> i64
     requires { Moderate credit debit }
     ensures { result ≡ tonnes_of (reduction_of credit debit) }
 {
-    whole(credit, debit, TONNE)
+    reduction(credit, debit).div_euclid(TONNE as i64)
 }
 
 // Ruled out: a negative number's size; 0 always.

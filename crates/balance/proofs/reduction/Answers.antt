@@ -1,9 +1,6 @@
--- In wholes of one mg.
-use mathlib.Core.Path.{◌∙◌}
-use mir.Syntax.{w64}
-use mir.Facts.{to_z-of_z}
-use Rattle.balance.proofs.Laws.{by_one}
+-- The difference, with its sign.
+use Rattle.balance.proofs.Laws.{less_back}
 use Rattle.balance.proofs.reduction.Goals as goal
 
 pub returns : goal.returns
-returns c = to_z-of_z {w = w64} (record { sfits = c.whole.type_inv }) ∙ c.whole.ensures ∙ by_one _
+returns c = less_back c.args.credit c.args.debit c.requires.credit_most c.requires.debit_most
