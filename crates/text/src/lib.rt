@@ -2,7 +2,7 @@
 // made of these parts; what a form is and what a refusal means is in specs/Form.antt. crates/writing writes them.
 #![tactic(auto)]
 
-ghost use Rattle.std.specs.Prelude.{ℕ, List, ℤ, pos, ◌+◌, ◌*◌, ◌≤◌, ◌<◌, ◌≡◌, ltb, length};
+ghost use Rattle.std.specs.Prelude.{ℕ, List, ℤ, pos, ◌+◌, ◌*◌, ◌^◌, ◌≤◌, ◌<◌, ◌≡◌, ltb, length, negsuc};
 ghost use Rattle.std.proofs.Common.{rules};
 ghost use Rattle.text.specs.Decimal.{Range, Fit, number, plain, signed};
 ghost use Rattle.text.specs.Line.{line};
@@ -13,6 +13,14 @@ ghost use Rattle.text.specs.Inner.{SameKey, word_at};
 #[derive(Clone, Copy, PartialEq, Eq)]
 pub struct Wrong {
     pub place: usize,
+}
+
+// -1 - m: the least number has no negative of its own width, and the library no subtraction that takes it.
+fn minus_one_less(m: u64) -> i64
+    requires { m < 2 ^ 63 }
+    ensures { result ≡ negsuc m }
+{
+    -1 - (m as i64)
 }
 
 // How many bytes of the key stand in t from `start`.
@@ -51,12 +59,14 @@ fn same(t: &[u8], start: usize, key: &[u8]) -> bool
     if t.len() - start < n {
         return false;
     }
-    for w in 0..n / 4 {
-        if word(t, start + 4 * w) != word(key, 4 * w) {
+    let mut i = 0;
+    while i + 4 <= n {
+        if word(t, start + i) != word(key, i) {
             return false;
         }
+        i += 4;
     }
-    for k in n / 4 * 4..n {
+    for k in i..n {
         if t[start + k] != key[k] {
             return false;
         }
@@ -69,7 +79,7 @@ fn word(t: &[u8], p: usize) -> u64
     requires { p + 4 ≤ length t.now }
     ensures { result ≡ word_at t.now p }
 {
-    u32::from_le_bytes([t[p], t[p + 1], t[p + 2], t[p + 3]]) as u64
+    t[p] as u64 + 256 * t[p + 1] as u64 + 65536 * t[p + 2] as u64 + 16777216 * t[p + 3] as u64
 }
 
 // Whether 10 v + d, which may be too large for 64 bits, is above `most`. Ruled out: the border itself; a sum that wraps.
@@ -142,7 +152,7 @@ pub fn read_signed(
 {
     if start < t.len() && t[start] == 45 {
         let (v, stop) = read_natural(t, start + 1, 1, below, end)?;
-        return Ok((0i64.saturating_sub_unsigned(v), stop));
+        return Ok((minus_one_less(v - 1), stop));
     }
     let (v, stop) = read_natural(t, start, 0, most, end)?;
     Ok((v as i64, stop))
