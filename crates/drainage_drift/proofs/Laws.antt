@@ -87,6 +87,21 @@ module _ (c : Instrument) (reading : List ℕ) (i : ℕ) where
           let q = corrected_le (stretch_drift c i) (get_or reading i mark) in
           omega arith))
 
+  -- where measured readings are at most b, so are measured corrected values, and the same ones are missing
+  module _ (b : ℕ) (small : b < mark) (right : missing (get_or reading i mark) ≡ false → get_or reading i mark ≤ b) where
+    up_to_mark : get_or reading i mark ≤ mark
+    up_to_mark = go (missing (get_or reading i mark)) refl
+      where
+        go : (t : Bool) → missing (get_or reading i mark) ≡ t → get_or reading i mark ≤ mark
+        go true e = let q = eqb-true (get_or reading i mark) mark e in omega arith
+        go false e = let q = right e in omega arith
+
+    pub bounded_missing : missing (corrected_at c reading i) ≡ missing (get_or reading i mark)
+    bounded_missing = same_missing up_to_mark
+
+    pub bounded_value : missing (corrected_at c reading i) ≡ false → corrected_at c reading i ≤ b
+    bounded_value e = let f = sym bounded_missing ∙ e in at_bounded b f (right f)
+
 -- ---- the greatest of some numbers
 
 pub max_to_ext : (n : ℕ) (f g : ℕ → ℕ) → ((k : ℕ) → k < n → f k ≡ g k) → max_to n f ≡ max_to n g

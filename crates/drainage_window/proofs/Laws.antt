@@ -326,3 +326,12 @@ limit_mean t z = greatest_within (meets t z) (mean_of t)
 
 pub limit_most : (t : Tally) (z b : ℕ) → t.sum ≤ t.n * b → limit_of t z ≤ b
 limit_most t z b h = le_trans (limit_mean t z) (mean_most t b h)
+
+-- values of at most b, and a replacement of at most b
+pub windows_mean_most : (b : ℕ) (before after : List ℕ) → Low b before → Low b after → mean_of (tally_of (before ++ after)) ≤ b
+windows_mean_most b before after l m =
+    mean_most (tally_of (before ++ after)) b (tally_most b (before ++ after) (low_append b before after l m))
+
+pub windows_limit_most : (b z : ℕ) (before after : List ℕ) → Low b before → Low b after → limit_of (tally_of (before ++ after)) z ≤ b
+windows_limit_most b z before after l m =
+    le_trans (limit_mean (tally_of (before ++ after)) z) (windows_mean_most b before after l m)

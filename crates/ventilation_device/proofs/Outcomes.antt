@@ -72,6 +72,34 @@ module _ (x y : Gas) (status : ℕ) where
   abbrev pub outcome_for : ℕ
   outcome_for = outcome_of status lacking (inlet_litres x) (exhaust_litres y)
 
+  -- ---- what each test leaves
+
+  pub stopped : eqb status 0 ≡ true → outcome_for ≡ 3
+  unfolding outcome_of
+  stopped a = simp a
+
+  pub unrecorded : eqb status 0 ≡ false → eqb status 3 ≡ true → outcome_for ≡ 4
+  unfolding outcome_of
+  unrecorded a b = simp (a, b)
+
+  pub lacks_inlet : eqb status 0 ≡ false → eqb status 3 ≡ false → gas_missing x ≡ true → outcome_for ≡ 5
+  unfolding outcome_of
+  lacks_inlet a b c = simp (a, b, c)
+
+  pub lacks_exhaust : eqb status 0 ≡ false → eqb status 3 ≡ false → gas_missing x ≡ false → gas_missing y ≡ true → outcome_for ≡ 5
+  unfolding outcome_of
+  lacks_exhaust a b c d = simp (a, b, c, d)
+
+  pub more_out : eqb status 0 ≡ false → eqb status 3 ≡ false → gas_missing x ≡ false → gas_missing y ≡ false → ltb (inlet_litres x) (exhaust_litres y) ≡ true
+      → outcome_for ≡ 6
+  unfolding outcome_of
+  more_out a b c d e = simp (a, b, c, d, e)
+
+  pub measured : eqb status 0 ≡ false → eqb status 3 ≡ false → gas_missing x ≡ false → gas_missing y ≡ false → ltb (inlet_litres x) (exhaust_litres y) ≡ false
+      → outcome_for ≡ 0
+  unfolding outcome_of
+  measured a b c d e = simp (a, b, c, d, e)
+
   -- ---- what an entry is bounded by
 
   inlet_most : gas_right x ≡ true → gas_missing x ≡ false → inlet_litres x ≤ air_most
